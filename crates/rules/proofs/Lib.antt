@@ -1,0 +1,10 @@
+pub mod Table
+pub mod Tests
+pub mod Nearest
+pub mod Sets
+pub mod Letters
+pub mod Answers
+pub mod Kept
+pub mod Limits
+pub mod Local
+pub mod Order
