@@ -1,5 +1,6 @@
-pub mod Table
 pub mod Tests
+pub mod Every
+pub mod Table
 pub mod Nearest
 pub mod Sets
 pub mod Letters
@@ -8,3 +9,16 @@ pub mod Kept
 pub mod Limits
 pub mod Local
 pub mod Order
+pub mod Decimal
+pub mod Parted
+pub mod ListBack
+pub mod PairBack
+pub mod LineBack
+pub mod Short
+pub mod Ids
+pub mod PlanBack
+pub mod ReportLines
+pub mod Inputs
+pub mod Edges
+pub mod RefusalTable
+pub mod Examples
