@@ -11,14 +11,12 @@ use lib.Dec.{eqb}
 use lib.ListN.{length, getD, length-append, List·getD-append}
 use lib.Seq.{append-snoc, getD-append-seam}
 use borrow.Author.Tests.{eq-eqb, ne-eqb}
-use Rattle.rules.specs.Tests.{any, total}
+use Rattle.rules.specs.Tests.{any}
 use Rattle.rules.specs.Plan.{Activity}
-use Rattle.rules.specs.Order.{order}
 use Rattle.rules.specs.Outcomes.{noActivity}
 use Rattle.rules.specs.Reading.{hasId, misplaced}
 use Rattle.rules.proofs.Tests.{last-or, or-left, or-right}
 use Rattle.rules.proofs.Every.{every-all}
-use Rattle.rules.proofs.Order.{order-total}
 
 -- no two activities have one id
 abbrev pub Distinct : List Activity → Type 0
@@ -64,13 +62,3 @@ module _ (ys : List Activity) (named : Named ys) where
   -- so 7 is not drawn
   pub none-misplaced : misplaced [] ys ≡ none
   none-misplaced = none-after [] [] ys refl (λ j l. absurd (omega arith))
-
--- counting one for each gives the length
-ones : (xs : List Activity) → total (λ a. 1) xs ≡ length xs
-unfolding total
-ones [] = refl
-ones (a ∷ xs) = omega (arith, ones xs)
-
--- the order has as many activities as the plan
-pub order-length : (xs : List Activity) → length (order xs) ≡ length xs
-order-length xs = sym (ones (order xs)) ∙ order-total (λ a. 1) xs ∙ ones xs

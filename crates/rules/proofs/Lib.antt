@@ -8,7 +8,15 @@ pub mod Answers
 pub mod Kept
 pub mod Limits
 pub mod Local
+pub mod Cases
 pub mod Order
+pub mod Runs
+pub mod SameRuns
+pub mod Signed
+pub mod Level
+pub mod Terms
+pub mod Refusing
+pub mod Filling
 pub mod Decimal
 pub mod Parted
 pub mod ListBack

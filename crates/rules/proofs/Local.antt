@@ -1,147 +1,161 @@
--- What a quick planner may test instead: the literal definitions, at fewer ticks.
-use Prim.Native.Nat.{ℕ, zero, suc, _+_, _-_, _<_, _≤_, max}
+-- What the conditions U, S, E and P say at fewer ticks, and the law of a sum that E and P share.
+-- Assumes nothing.
+use Prim.Native.Nat.{ℕ, _+_, _-_, _<_, _≤_, max}
 use mathlib.Core.Path.{_≡_, refl, sym, _∙_, ap, subst}
-use mathlib.Core.Logic.{_↔_, _⊎_, inl, inr, ⊎-elim}
+use mathlib.Core.Logic.{_↔_}
 use mathlib.Core.Bool.{Bool, true, false, cond, _&&_}
-use mathlib.Core.List.{List, [], _∷_, List·Memᴰ, List·Memᴰ·head, List·Memᴰ·tail}
+use mathlib.Core.List.{[], _∷_, List·Memᴰ, List·Memᴰ·head, List·Memᴰ·tail}
 use mathlib.Core.Option.{Option, none, some}
 use native.Mathlib.Omega.{arith}
 use lib.Dec.{leb, ltb, eqb}
-use borrow.Author.Tests.{leb-true, leb-false, ltb-true, ltb-false, le-leb, lt-leb, lt-ltb, le-ltb}
+use borrow.Author.Tests.{leb-true, ltb-true, le-leb, lt-ltb}
 use Rattle.rules.specs.Plan.{Header, Activity, Setting, Entry, Schedule, at, end}
-use Rattle.rules.specs.Tests.{each, ever, total}
+use Rattle.rules.specs.Tests.{ever, total}
 use Rattle.rules.specs.Hold.{holds}
 use Rattle.rules.specs.Load.{load, loadKept}
-use Rattle.rules.specs.MeetsU.{share, clash}
 use Rattle.rules.specs.MeetsS.{Standing, given, over, standing, met}
 use Rattle.rules.proofs.Tests.{each-at, each-all, ever-at, ever-found, and-left, and-right, and-both}
+use Rattle.rules.proofs.Cases.{by-order}
 
 pub bool-ext : (a b : Bool) → (a ≡ true → b ≡ true) → (b ≡ true → a ≡ true) → a ≡ b
 bool-ext true b f g = sym (f refl)
 bool-ext false true f g = g refl
 bool-ext false false f g = refl
 
-pub holds-of : (t : ℕ) (p : Entry) → p .start ≤ t → t < end p → holds t p ≡ true
+-- ---- the ticks that an entry holds
+pub holds-of : (t : ℕ) (e : Entry) → e .start ≤ t → t < end e → holds t e ≡ true
 unfolding holds
-holds-of t p a b = and-both (le-leb _ _ a) (lt-ltb _ _ b)
+holds-of t e a b = and-both (le-leb _ _ a) (lt-ltb _ _ b)
 
-pub holds-from : (t : ℕ) (p : Entry) → holds t p ≡ true → p .start ≤ t
+pub holds-from : (t : ℕ) (e : Entry) → holds t e ≡ true → e .start ≤ t
 unfolding holds
-holds-from t p e = leb-true _ _ (and-left _ _ e)
+holds-from t e q = leb-true _ _ (and-left _ _ q)
 
-pub holds-till : (t : ℕ) (p : Entry) → holds t p ≡ true → t < end p
+pub holds-till : (t : ℕ) (e : Entry) → holds t e ≡ true → t < end e
 unfolding holds
-holds-till t p e = ltb-true _ _ (and-right (leb (p .start) t) _ e)
+holds-till t e q = ltb-true _ _ (and-right (leb (e .start) t) _ q)
 
--- E and P: beside a schedule that is loadKept the limit, only the candidate's own ticks need a test
-module _ (f : Activity → ℕ) (limit : ℕ) (h : Header) (ps : Schedule) (a : Activity) (s : ℕ) where
-  pub loadKept-more : loadKept f limit h ps ≡ true → ((i : ℕ) → i < a .duration → f a + load f ps (s + i) ≤ limit) → loadKept f limit h (at a s ∷ ps) ≡ true
-  unfolding loadKept load total
-  loadKept-more e g = each-all _ _ (λ t k. le-leb _ _ (go t k (holds t (at a s)) refl))
-    where
-      go : (t : ℕ) → t < h .horizon → (b : Bool) → holds t (at a s) ≡ b → cond b (f a) 0 + load f ps t ≤ limit
-      go t k true q =
-          let from : s ≤ t = holds-from t (at a s) q in
-          let till : t < s + a .duration = holds-till t (at a s) q in
-          let same : s + (t - s) ≡ t = omega arith in
-          subst (λ (u : ℕ). f a + load f ps u ≤ limit) same (g (t - s) (omega arith))
-      go t k false q = omega (arith, leb-true (load f ps t) limit (each-at (λ t. leb (load f ps t) limit) (h .horizon) t e k))
+-- ---- E and P, over any quantity
+-- an activity added never makes the load lower
+pub load-more : (quantity : Activity → ℕ) (placed : Schedule) (e : Entry) (t : ℕ) → load quantity placed t ≤ load quantity (e ∷ placed) t
+unfolding load total
+load-more quantity placed e t = omega arith
 
-  pub loadKept-own : s + a .duration ≤ h .horizon → loadKept f limit h (at a s ∷ ps) ≡ true → (i : ℕ) → i < a .duration → f a + load f ps (s + i) ≤ limit
-  unfolding loadKept load total
-  loadKept-own l e i k =
-      let its : holds (s + i) (at a s) ≡ true = holds-of (s + i) (at a s) (omega arith) (omega arith) in
-      let sum : load f (at a s ∷ ps) (s + i) ≤ limit = leb-true _ _ (each-at (λ t. leb (load f (at a s ∷ ps) t) limit) (h .horizon) (s + i) e (omega arith)) in
-      subst (λ (b : Bool). cond b (f a) 0 + load f ps (s + i) ≤ limit) its sum
+module _ (quantity : Activity → ℕ) (limit : ℕ) (h : Header) where
+  -- the test says that the sum is at most the limit in each tick of the plan
+  pub load-kept : (placed : Schedule) → (loadKept quantity limit h placed ≡ true) ↔ ((t : ℕ) → t < h .horizon → load quantity placed t ≤ limit)
+  unfolding loadKept
+  load-kept placed = (
+    λ q t k. leb-true _ _ (each-at (λ t. leb (load quantity placed t) limit) (h .horizon) t q k),
+    λ f. each-all _ _ (λ t k. le-leb _ _ (f t k)),
+  )
 
--- U: two of some length loadKept the horizon hold one tick exactly when each starts before the other's end
-pub meet-when : (h : Header) (p q : Entry) → p .start < end p → q .start < end q → end p ≤ h .horizon → end q ≤ h .horizon → ever (λ t. holds t p && holds t q) (h .horizon) ≡ (ltb (p .start) (end q) && ltb (q .start) (end p))
-meet-when h p q dp dq tp tq = bool-ext _ _ there back
+  -- beside a schedule that keeps the limit, only the candidate's own ticks need a test
+  module _ (placed : Schedule) (a : Activity) (s : ℕ) where
+    pub loadKept-more : loadKept quantity limit h placed ≡ true → ((i : ℕ) → i < a .duration → quantity a + load quantity placed (s + i) ≤ limit) → loadKept quantity limit h (at a s ∷ placed) ≡ true
+    unfolding load total
+    loadKept-more q own = load-kept (at a s ∷ placed) .1 (λ t k. go t k (holds t (at a s)) refl)
+      where
+        go : (t : ℕ) → t < h .horizon → (b : Bool) → holds t (at a s) ≡ b → cond b (quantity a) 0 + load quantity placed t ≤ limit
+        go t k true r =
+            let from : s ≤ t = holds-from t (at a s) r in
+            let till : t < s + a .duration = holds-till t (at a s) r in
+            let same : s + (t - s) ≡ t = omega arith in
+            subst (λ (u : ℕ). quantity a + load quantity placed u ≤ limit) same (own (t - s) (omega arith))
+        go t k false r = omega (arith, load-kept placed .0 q t k)
+
+    pub loadKept-own : s + a .duration ≤ h .horizon → loadKept quantity limit h (at a s ∷ placed) ≡ true → (i : ℕ) → i < a .duration → quantity a + load quantity placed (s + i) ≤ limit
+    unfolding load total
+    loadKept-own l q i k =
+        subst (λ (b : Bool). cond b (quantity a) 0 + load quantity placed (s + i) ≤ limit) (holds-of (s + i) (at a s) (omega arith) (omega arith)) (load-kept (at a s ∷ placed) .0 q (s + i) (omega arith))
+
+-- ---- U
+-- two that hold some ticks, all of the plan, hold one tick exactly when each starts before the other's end
+pub meet-when : (h : Header) (d e : Entry) → d .start < end d → e .start < end e → end d ≤ h .horizon → end e ≤ h .horizon → ever (λ t. holds t d && holds t e) (h .horizon) ≡ (ltb (d .start) (end e) && ltb (e .start) (end d))
+meet-when h d e ld le hd he = bool-ext _ _ there back
   where
-    there : ever (λ t. holds t p && holds t q) (h .horizon) ≡ true → (ltb (p .start) (end q) && ltb (q .start) (end p)) ≡ true
-    there e =
-        let w = ever-found (λ t. holds t p && holds t q) (h .horizon) e in
+    there : ever (λ t. holds t d && holds t e) (h .horizon) ≡ true → (ltb (d .start) (end e) && ltb (e .start) (end d)) ≡ true
+    there q =
+        let w = ever-found (λ t. holds t d && holds t e) (h .horizon) q in
         let t = w .0 in
-        let a : holds t p ≡ true = and-left _ _ (w .2) in
-        let b : holds t q ≡ true = and-right (holds t p) _ (w .2) in
-        and-both (lt-ltb (p .start) (end q) (omega (arith, holds-from t p a, holds-till t q b))) (lt-ltb (q .start) (end p) (omega (arith, holds-from t q b, holds-till t p a)))
+        let a : holds t d ≡ true = and-left _ _ (w .2) in
+        let b : holds t e ≡ true = and-right (holds t d) _ (w .2) in
+        and-both (lt-ltb (d .start) (end e) (omega (arith, holds-from t d a, holds-till t e b))) (lt-ltb (e .start) (end d) (omega (arith, holds-from t e b, holds-till t d a)))
 
-    back : (ltb (p .start) (end q) && ltb (q .start) (end p)) ≡ true → ever (λ t. holds t p && holds t q) (h .horizon) ≡ true
-    back e =
-        let a : p .start < end q = ltb-true _ _ (and-left _ _ e) in
-        let b : q .start < end p = ltb-true _ _ (and-right (ltb (p .start) (end q)) _ e) in
-        ever-at _ (h .horizon) (max (p .start) (q .start)) (omega arith) (and-both (holds-of _ p (omega arith) (omega arith)) (holds-of _ q (omega arith) (omega arith)))
+    back : (ltb (d .start) (end e) && ltb (e .start) (end d)) ≡ true → ever (λ t. holds t d && holds t e) (h .horizon) ≡ true
+    back q =
+        let a : d .start < end e = ltb-true _ _ (and-left _ _ q) in
+        let b : e .start < end d = ltb-true _ _ (and-right (ltb (d .start) (end e)) _ q) in
+        ever-at _ (h .horizon) (max (d .start) (e .start)) (omega arith) (and-both (holds-of _ d (omega arith) (omega arith)) (holds-of _ e (omega arith) (omega arith)))
 
--- S: a variable's value changes only where an activity ends
-leb-same : (e t u : ℕ) → u ≤ t → (e ≤ t → e ≤ u) → leb e t ≡ leb e u
-leb-same e t u k f = bool-ext _ _ (λ q. le-leb _ _ (f (leb-true _ _ q))) (λ q. let l : e ≤ u = leb-true _ _ q in le-leb e t (omega arith))
+-- ---- S
+leb-same : (x t u : ℕ) → u ≤ t → (x ≤ t → x ≤ u) → leb x t ≡ leb x u
+leb-same x t u k f = bool-ext _ _ (λ q. le-leb _ _ (f (leb-true _ _ q))) (λ q. let l : x ≤ u = leb-true _ _ q in le-leb x t (omega arith))
 
-over-same : (p : Entry) (o : Option ℕ) (t u : ℕ) (b : Standing) → leb (end p) t ≡ leb (end p) u → over p o t b ≡ over p o u b
+over-same : (e : Entry) (o : Option ℕ) (t u : ℕ) (b : Standing) → leb (end e) t ≡ leb (end e) u → over e o t b ≡ over e o u b
 unfolding over
-over-same p none t u b e = refl
-over-same p (some x) t u b e = rw e
+over-same e none t u b q = refl
+over-same e (some x) t u b q = rw q
 
-pub same-since : (ps : Schedule) (v t u : ℕ) → u ≤ t → ((q : Entry) → List·Memᴰ q ps → end q ≤ t → end q ≤ u) → standing ps v t ≡ standing ps v u
+-- a variable's value at t is that at u where no placed activity ends after u and by t
+pub same-since : (placed : Schedule) (v t u : ℕ) → u ≤ t → ((e : Entry) → List·Memᴰ e placed → end e ≤ t → end e ≤ u) → standing placed v t ≡ standing placed v u
 unfolding standing
 same-since [] v t u k f = refl
-same-since (p ∷ ps) v t u k f =
-    over-same p (given (p .activity .sets) v) t u (standing ps v t) (leb-same (end p) t u k (f p (List·Memᴰ·head refl)))
-    ∙ ap (over p (given (p .activity .sets) v) u) (same-since ps v t u k (λ q m. f q (List·Memᴰ·tail m)))
+same-since (e ∷ placed) v t u k f =
+    over-same e (given (e .activity .sets) v) t u (standing placed v t) (leb-same (end e) t u k (f e (List·Memᴰ·head refl)))
+    ∙ ap (over e (given (e .activity .sets) v) u) (same-since placed v t u k (λ d m. f d (List·Memᴰ·tail m)))
 
--- the last of s and the ends by t
+-- the latest of s and the ends by t
 unfoldable pub edge : Schedule → ℕ → ℕ → ℕ
 edge [] s t = s
-edge (p ∷ ps) s t = cond (leb (end p) t) (max (end p) (edge ps s t)) (edge ps s t)
+edge (e ∷ placed) s t = cond (leb (end e) t) (max (end e) (edge placed s t)) (edge placed s t)
+
+-- one entry more never makes it earlier
+edge-up : (b : Bool) (x y n : ℕ) → n ≤ y → n ≤ cond b (max x y) y
+edge-up true x y n l = omega arith
+edge-up false x y n l = l
 
 module _ (s t : ℕ) (k : s ≤ t) where
-  edge-by : (ps : Schedule) → edge ps s t ≤ t
+  edge-by : (placed : Schedule) → edge placed s t ≤ t
   unfolding edge
   edge-by [] = k
-  edge-by (p ∷ ps) = go (leb (end p) t) refl (edge-by ps)
+  edge-by (e ∷ placed) = go (leb (end e) t) refl (edge-by placed)
     where
-      go : (b : Bool) → leb (end p) t ≡ b → edge ps s t ≤ t → cond b (max (end p) (edge ps s t)) (edge ps s t) ≤ t
-      go true e l = omega (arith, leb-true (end p) t e)
-      go false e l = l
+      go : (b : Bool) → leb (end e) t ≡ b → edge placed s t ≤ t → cond b (max (end e) (edge placed s t)) (edge placed s t) ≤ t
+      go true q l = omega (arith, leb-true (end e) t q)
+      go false q l = l
 
-  edge-from : (ps : Schedule) → s ≤ edge ps s t
+  edge-from : (placed : Schedule) → s ≤ edge placed s t
   unfolding edge
   edge-from [] = omega arith
-  edge-from (p ∷ ps) = go (leb (end p) t) (edge-from ps)
-    where
-      go : (b : Bool) → s ≤ edge ps s t → s ≤ cond b (max (end p) (edge ps s t)) (edge ps s t)
-      go true l = omega arith
-      go false l = l
+  edge-from (e ∷ placed) = edge-up (leb (end e) t) (end e) (edge placed s t) s (edge-from placed)
 
-  edge-last : (ps : Schedule) (q : Entry) → List·Memᴰ q ps → end q ≤ t → end q ≤ edge ps s t
+  edge-last : (placed : Schedule) (d : Entry) → List·Memᴰ d placed → end d ≤ t → end d ≤ edge placed s t
   unfolding edge
-  edge-last (p ∷ ps) q (List·Memᴰ·head e) l =
-      let same : end q ≡ end p = ap end e in
-      subst (λ (b : Bool). end q ≤ cond b (max (end p) (edge ps s t)) (edge ps s t)) (sym (le-leb (end p) t (omega arith))) (omega arith)
-  edge-last (p ∷ ps) q (List·Memᴰ·tail m) l = go (leb (end p) t) (edge-last ps q m l)
-    where
-      go : (b : Bool) → end q ≤ edge ps s t → end q ≤ cond b (max (end p) (edge ps s t)) (edge ps s t)
-      go true l = omega arith
-      go false l = l
+  edge-last (e ∷ placed) d (List·Memᴰ·head q) l =
+      let same : end d ≡ end e = ap end q in
+      rw (le-leb (end e) t (omega arith)) (omega arith)
+  edge-last (e ∷ placed) d (List·Memᴰ·tail m) l = edge-up (leb (end e) t) (end e) (edge placed s t) (end d) (edge-last placed d m l)
 
   -- it is s, or the end of one
-  edge-is : (P : ℕ → Type 0) (ps : Schedule) → P s → ((q : Entry) → List·Memᴰ q ps → end q ≤ t → P (end q)) → P (edge ps s t)
+  edge-is : (P : ℕ → Type 0) (placed : Schedule) → P s → ((e : Entry) → List·Memᴰ e placed → end e ≤ t → P (end e)) → P (edge placed s t)
   unfolding edge
   edge-is P [] a f = a
-  edge-is P (p ∷ ps) a f = go (leb (end p) t) refl (edge-is P ps a (λ q m. f q (List·Memᴰ·tail m)))
+  edge-is P (e ∷ placed) a f = go (leb (end e) t) refl (edge-is P placed a (λ d m. f d (List·Memᴰ·tail m)))
     where
-      pick : (c : Bool) → leb (end p) (edge ps s t) ≡ c → P (end p) → P (edge ps s t) → P (max (end p) (edge ps s t))
-      pick true e x y = let l : end p ≤ edge ps s t = leb-true _ _ e in let m : edge ps s t ≡ max (end p) (edge ps s t) = omega arith in subst P m y
-      pick false e x y = let l : edge ps s t < end p = leb-false _ _ e in let m : end p ≡ max (end p) (edge ps s t) = omega arith in subst P m x
+      go : (b : Bool) → leb (end e) t ≡ b → P (edge placed s t) → P (cond b (max (end e) (edge placed s t)) (edge placed s t))
+      go true q y =
+          let x : P (end e) = f e (List·Memᴰ·head refl) (leb-true _ _ q) in
+          by-order (end e) (edge placed s t)
+          (λ l. let m : edge placed s t ≡ max (end e) (edge placed s t) = omega arith in subst P m y)
+          (λ l. let m : end e ≡ max (end e) (edge placed s t) = omega arith in subst P m x)
+      go false q y = y
 
-      go : (b : Bool) → leb (end p) t ≡ b → P (edge ps s t) → P (cond b (max (end p) (edge ps s t)) (edge ps s t))
-      go true e y = pick (leb (end p) (edge ps s t)) refl (f p (List·Memᴰ·head refl) (leb-true _ _ e)) y
-      go false e y = y
-
--- a need is met in each tick that p holds when it is met at p's start and wherever one ends while p holds
-pub met-by-edges : (ps : Schedule) (p : Entry) (n : Setting) → met ps (p .start) n ≡ true → ((q : Entry) → List·Memᴰ q ps → holds (end q) p ≡ true → met ps (end q) n ≡ true) → (t : ℕ) → holds t p ≡ true → met ps t n ≡ true
+-- a need is met in each tick that e holds when it is met at e's start and wherever one ends while e holds
+pub met-by-edges : (placed : Schedule) (e : Entry) (n : Setting) → met placed (e .start) n ≡ true → ((d : Entry) → List·Memᴰ d placed → holds (end d) e ≡ true → met placed (end d) n ≡ true) → (t : ℕ) → holds t e ≡ true → met placed t n ≡ true
 unfolding met
-met-by-edges ps p n a f t e =
-    let from : p .start ≤ t = holds-from t p e in
-    let till : t < end p = holds-till t p e in
-    ap (λ (x : Standing). eqb (x .value) (n .value)) (same-since ps (n .variable) t (edge ps (p .start) t) (edge-by (p .start) t from ps) (edge-last (p .start) t from ps))
-    ∙ edge-is (p .start) t from (λ u. p .start ≤ u → met ps u n ≡ true) ps (λ _. a) (λ q m l g. f q m (holds-of (end q) p g (omega arith))) (edge-from (p .start) t from ps)
+met-by-edges placed e n a f t q =
+    let from : e .start ≤ t = holds-from t e q in
+    let till : t < end e = holds-till t e q in
+    ap (λ (x : Standing). eqb (x .value) (n .value)) (same-since placed (n .variable) t (edge placed (e .start) t) (edge-by (e .start) t from placed) (edge-last (e .start) t from placed))
+    ∙ edge-is (e .start) t from (λ u. e .start ≤ u → met placed u n ≡ true) placed (λ _. a) (λ d m l g. f d m (holds-of (end d) e g (omega arith))) (edge-from (e .start) t from placed)

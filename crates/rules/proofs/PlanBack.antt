@@ -20,7 +20,8 @@ use Rattle.rules.specs.Print.{activitiesText, planText}
 use Rattle.rules.specs.WellFormed.{HeaderFormed, ActivityFormed, WellFormed, Reachable}
 use Rattle.rules.proofs.LineBack.{header-back, activity-back}
 use Rattle.rules.proofs.Short.{plan-length}
-use Rattle.rules.proofs.Ids.{Distinct, new-id, none-misplaced, order-length}
+use Rattle.rules.proofs.Ids.{Distinct, new-id, none-misplaced}
+use Rattle.rules.proofs.Order.{order-length}
 
 module _ (h : Header) (xs : List Activity) (g : HeaderFormed h) (few : length xs ≤ 64) (each : (a : Activity) → List·Memᴰ a xs → ActivityFormed h a) (ids : Distinct xs) where
   -- the lines of the rest, after the activities of earlier lines

@@ -31,3 +31,5 @@ pub mod WellFormed
 pub mod Acceptance
 pub mod Demand
 pub mod Open
+pub mod RunsRight
+pub mod OrderRight
