@@ -18,18 +18,10 @@ use Rattle.rules.specs.MeetsP.{meetsP, peaksKept}
 use Rattle.rules.specs.MeetsB.{meetsB, charge, chargeKept, drawn, smaller}
 use Rattle.rules.specs.MeetsV.{meetsV, volumeKept, totalVolume}
 use Rattle.rules.specs.Conditions.{conditions, meets}
+use Rattle.rules.specs.Kept.{Kept}
 use Rattle.rules.specs.WellFormed.{HeaderFormed}
 use Rattle.rules.specs.Demand.{Valid}
 use Rattle.rules.proofs.Tests.{each-all, and-both, is-true}
-
--- the six tests over a whole schedule pass
-pub record Kept (h : Header) (ps : Schedule) : Type 0 where
-  pub units : unitsKept h ps ≡ true
-  pub needs : needsKept h ps ≡ true
-  pub engines : enginesKept h ps ≡ true
-  pub peaks : peaksKept h ps ≡ true
-  pub charge : chargeKept h ps ≡ true
-  pub volume : volumeKept h ps ≡ true
 
 -- with nothing placed
 loadKept-none : (f : Activity → ℕ) (limit : ℕ) (h : Header) → loadKept f limit h [] ≡ true

@@ -22,7 +22,7 @@ use Rattle.rules.specs.MeetsB.{charge, chargeKept}
 use Rattle.rules.specs.MeetsV.{volumeKept}
 use Rattle.rules.specs.Demand.{nth, Limits}
 use Rattle.rules.proofs.Tests.{each-at, ever-at, every-at, every-mem, and-left, and-right, and-both, both-ways}
-use Rattle.rules.proofs.Kept.{Kept}
+use Rattle.rules.specs.Kept.{Kept}
 
 le-of : {a b : ℤ} → leZ a b ≡ true → a ≤ℤ b
 le-of e = leZ-yes (subst T (sym e) tt)

@@ -26,6 +26,7 @@ pub mod Reading
 pub mod Runs
 pub mod Report
 pub mod Calls
+pub mod Kept
 pub mod Print
 pub mod WellFormed
 pub mod Acceptance
