@@ -34,3 +34,5 @@ pub mod Demand
 pub mod Open
 pub mod RunsRight
 pub mod OrderRight
+pub mod Forms
+pub mod Faults
