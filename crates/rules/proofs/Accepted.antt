@@ -11,7 +11,7 @@ use lib.IntN.{ℤ}
 use lib.ListN.{length, getD}
 use lib.Signed.{ltZ, _≤ℤ_, _<ℤ_, ltZ-yes, ltZ-no}
 use borrow.Author.Tests.{ltb-true, ltb-false}
-use Rattle.rules.specs.Tests.{any}
+use Rattle.rules.specs.Tests.{anyOf}
 use Rattle.rules.specs.Plan.{Activity, Plan}
 use Rattle.rules.specs.Lines.{lines}
 use Rattle.rules.specs.Order.{order}
@@ -38,7 +38,7 @@ not-below e = ltZ-no (subst (λ (t : Bool). T (not t)) (sym e) tt)
 
 module _ (s : List ℕ) (p : Plan) (R : PlanRead s p) where
   well-formed : NamedAfter [] (order (p .activities)) (length (order (p .activities))) → WellFormed p
-  unfolding activityAt hasId any
+  unfolding activityAt hasId anyOf
   well-formed t =
       record {
         header = R .begins .header;
@@ -49,7 +49,7 @@ module _ (s : List ℕ) (p : Plan) (R : PlanRead s p) where
       }
 
   misplaced-fault : (a : Activity) → Unnamed [] (order (p .activities)) a → FileFault s 7 (lineNumber (a .id) 2 (p .activities))
-  unfolding activityAt hasId any
+  unfolding activityAt hasId anyOf
   misplaced-fault a t =
       let r = mem-at noActivity (order-mem (p .activities) (at-mem noActivity (order (p .activities)) (t .place) (t .inside))) in
       let same : getD (p .activities) (r .0) noActivity .id ≡ a .id = ap (λ (b : Activity). b .id) (r .2 ∙ t .here) in

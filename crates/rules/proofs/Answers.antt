@@ -56,6 +56,7 @@ module _ (h : Header) (ps : Schedule) (a : Activity) where
         small = L .small;
         none = λ s k. L .none s (below s k);
         least = λ b g e. let w = L .least b g e in (w .0, in-time (w .0) (w .1), w .2);
+        turn = λ b g. (λ q. let w = L .turn b g .0 q in (w .0, in-time (w .0) (w .1), w .2), λ w. L .turn b g .1 (w .0, below (w .0) (w .1), w .2));
       }
 
   placed-at : (s : ℕ) → Best (valid test n) (distance a) n s → PlacedAt h ps a s

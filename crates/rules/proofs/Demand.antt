@@ -1,29 +1,27 @@
 -- Demand 3 holds of every accepted file.
 -- Assumes nothing.
-use Prim.Native.Nat.{ℕ, zero, suc, _≤_, _<_}
+use Prim.Native.Nat.{ℕ, zero, suc, _+_, _≤_, _<_}
 use mathlib.Core.Path.{_≡_, refl, sym, _∙_, ap, subst}
-use mathlib.Core.Bool.{Bool, true, false, cond}
 use mathlib.Core.List.{List, [], _∷_, _++_}
 use native.Mathlib.Omega.{arith}
-use native.Mathlib.Nat.{add-zero}
-use lib.Dec.{leb}
+use native.Mathlib.Nat.{add-zero, not-suc-le-zero}
 use lib.ListN.{length, getD}
-use borrow.Author.Tests.{lt-ltb}
-use Rattle.rules.specs.Plan.{Header, Activity, Plan, Schedule}
+use borrow.Author.Tests.{lt-leb}
+use Rattle.rules.specs.Plan.{Header, Activity, Plan, Schedule, end as ends}
 use Rattle.rules.specs.Lines.{lines}
 use Rattle.rules.specs.Outcomes.{reply, added, activityAt, placed, outcome, finished}
 use Rattle.rules.specs.Reading.{Reading, accepted, reading}
-use Rattle.rules.specs.Report.{outcomeLine, outcomeLines, endLine, report}
-use Rattle.rules.specs.Calls.{full, outcomeValues, outcomeOf, outcomeCall, Filled, refusing, filling, reportOf, reportCall}
+use Rattle.rules.specs.Report.{outcomeLine, outcomeLines, endLine, report, answerTo, output}
+use Rattle.rules.specs.Calls.{full, outcomeValues, outcomeOf, outcomeCall, reportOf, reportCall}
 use Rattle.rules.specs.WellFormed.{WellFormed, Reachable}
-use Rattle.rules.specs.Demand.{Right, placedBy, Limits, Demand3}
+use Rattle.rules.specs.Demand.{Right, nth, placedBy, linesBy, reportBy, DemandThree}
 use Rattle.rules.specs.declared.Outcome.{Outcome}
 use Rattle.rules.specs.declared.Outcome.the-variants.{Placed, Refused}
 use Rattle.rules.proofs.Answers.{replied}
 use Rattle.rules.specs.Kept.{Kept}
 use Rattle.rules.proofs.Kept.{none-kept, more-kept}
 use Rattle.rules.proofs.Limits.{limits}
-use Rattle.rules.proofs.ReportLines.{line-of-place, lines-behind, end-line}
+use Rattle.rules.proofs.ReportLines.{line-of-place, lines-behind, lines-count, end-line}
 use Rattle.rules.proofs.Accepted.{accepted-formed}
 
 -- no limit is broken at any place
@@ -39,52 +37,69 @@ placed-kept p F R zero = none-kept (p .header) (F .header) R
 placed-kept p F R (suc k) =
     added-kept (p .header) (placed p k) (activityAt p k) (reply (p .header) (placed p k) (activityAt p k)) (replied (p .header) (placed p k) (activityAt p k)) (placed-kept p F R k)
 
+-- those placed end by the horizon
+added-in-time : (h : Header) (ps : Schedule) (a : Activity) (o : Outcome) → Right h ps a o → ((i : ℕ) → i < length ps → ends (nth ps i) ≤ h .horizon) → (i : ℕ) → i < length (added o a ps) → ends (nth (added o a ps) i) ≤ h .horizon
+unfolding added
+added-in-time h ps a (Placed s) R T zero l = R .placed s refl .valid .start
+added-in-time h ps a (Placed s) R T (suc i) l = T i (omega arith)
+added-in-time h ps a (Refused m) R T i l = T i l
+
+placed-in-time : (p : Plan) (k i : ℕ) → i < length (placed p k) → ends (nth (placed p k) i) ≤ p .header .horizon
+unfolding placed
+placed-in-time p zero i l = absurd (not-suc-le-zero l)
+placed-in-time p (suc k) i l =
+    added-in-time (p .header) (placed p k) (activityAt p k) (reply (p .header) (placed p k) (activityAt p k)) (replied (p .header) (placed p k) (activityAt p k)) (placed-in-time p k) i l
+
 -- those placed are those that the outcomes place
 by-outcomes : (p : Plan) (k : ℕ) → placed p k ≡ placedBy p (outcome p) k
 unfolding placed outcome
 by-outcomes p zero = refl
 by-outcomes p (suc k) = ap (added (reply (p .header) (placed p k) (activityAt p k)) (activityAt p k)) (by-outcomes p k)
 
--- what a call has written where it gives no refusal
-filled : {A : Type 0} (room : ℕ) (xs : List A) → filling room xs .terms .number ≡ 0 → filling room xs .written ≡ xs
-unfolding filling
-filled room xs z = go (leb (length xs) room) z
-  where
-    go : (b : Bool) → cond b (record { terms = full (length xs ∷ []); written = xs }) (refusing 10 0) .terms .number ≡ 0 → cond b (record { terms = full (length xs ∷ []); written = xs }) (refusing 10 0) .written ≡ xs
-    go true q = refl
-    go false q = absurd (omega arith)
+lines-by : (p : Plan) (k : ℕ) → outcomeLines p k ≡ linesBy p (outcome p) k
+unfolding outcomeLines
+lines-by p zero = refl
+lines-by p (suc k) = ap (λ (l : List ℕ). l ++ outcomeLine (activityAt p k) (outcome p k)) (lines-by p k)
 
--- the calls on an accepted file
+-- so the report is the one that the outcomes give
+report-by : (p : Plan) → report p ≡ reportBy p (outcome p)
+unfolding report finished
+report-by p = let n : ℕ = length (p .activities) in rw (lines-by p n, by-outcomes p n)
 
-module _ (s : List ℕ) (p : Plan) (e : reading s ≡ accepted p) where
-  outcome-answered : (k : ℕ) → k < length (p .activities) → outcomeCall s k ≡ full (outcomeValues (outcome p k))
-  unfolding outcomeCall outcomeOf
-  outcome-answered k h = rw (e, lt-ltb _ _ h)
+-- its lines
+module _ (p : Plan) where
+  abbrev n : ℕ
+  n = length (p .activities)
 
-  report-written : (room : ℕ) → reportCall s room .terms .number ≡ 0 → reportCall s room .written ≡ report p
-  unfolding reportCall reportOf
-  report-written room z = rw e (filled room (report p) (rw e at z))
+  abbrev end : List ℕ
+  end = endLine (p .header) n (finished p)
 
-  end-written : (room : ℕ) → reportCall s room .terms .number ≡ 0 → getD (lines (reportCall s room .written)) (length (p .activities)) [] ≡ endLine (p .header) (length (p .activities)) (finished p)
+  line-count : length (lines (report p)) ≡ suc n
   unfolding report
-  end-written room z =
-      let n : ℕ = length (p .activities) in
-      rw (report-written room z)
-      (ap (λ i. getD (lines (outcomeLines p n ++ endLine (p .header) n (finished p))) i []) (sym (add-zero n))
-      ∙ lines-behind p n 0 (endLine (p .header) n (finished p))
-      ∙ ap (λ ls. getD ls 0 []) (end-line (p .header) n (finished p)))
+  line-count = lines-count p n end ∙ omega (arith, ap length (end-line (p .header) n (finished p)))
 
-  pub demand3 : Demand3 s p
-  unfolding report finished outcome
-  demand3 =
-      let F : WellFormed p × Reachable p = accepted-formed s p e in
-      let n : ℕ = length (p .activities) in
-      record {
-        answers = outcome p;
-        few = F .0 .few;
-        called = outcome-answered;
-        right = λ k h. subst (λ ps. Right (p .header) ps (activityAt p k) (outcome p k)) (by-outcomes p k) (replied (p .header) (placed p k) (activityAt p k));
-        line = λ room k z h. rw (report-written room z) (line-of-place p n k _ h);
-        last = λ room z. rw (← by-outcomes p n) (end-written room z);
-        whole = rw (← by-outcomes p n) (limits _ _ (placed-kept p (F .0) (F .1) n));
-      }
+  place-line : (k : ℕ) → k < n → getD (lines (report p)) k [] ≡ outcomeLine (activityAt p k) (outcome p k)
+  unfolding report
+  place-line k h = line-of-place p n k end h
+
+  last-line : getD (lines (report p)) n [] ≡ end
+  unfolding report
+  last-line =
+      ap (λ i. getD (lines (outcomeLines p n ++ end)) i []) (sym (add-zero n)) ∙ lines-behind p n 0 end ∙ ap (λ ls. getD ls 0 []) (end-line (p .header) n (finished p))
+
+pub demand3 : DemandThree
+unfolding finished outcome
+demand3 s p e =
+    let F : WellFormed p × Reachable p = accepted-formed s p e in
+    record {
+      answers = outcome p;
+      few = F .0 .few;
+      called = λ k h. unfold outcomeCall outcomeOf in (rw (e, lt-leb _ _ h));
+      right = λ k h. subst (λ ps. Right (p .header) ps (activityAt p k) (outcome p k)) (by-outcomes p k) (replied (p .header) (placed p k) (activityAt p k));
+      report = λ room. unfold reportCall reportOf in (rw (e, ← report-by p));
+      printed = unfold output answerTo in (rw (e, ← report-by p));
+      lineCount = rw (← report-by p) (line-count p);
+      line = λ k h. rw (← report-by p) (place-line p k h);
+      last = rw (← report-by p, ← by-outcomes p (length (p .activities))) (last-line p);
+      whole = rw (← by-outcomes p (length (p .activities))) (limits _ _ (placed-kept p (F .0) (F .1) (length (p .activities))) (placed-in-time p (length (p .activities))));
+    }

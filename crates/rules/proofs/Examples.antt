@@ -77,10 +77,11 @@ limitExamples =
     ∷ record { plan = "plan 2 0 1 0 0 0 0 0 0 0 0\nact 1 5 1 0 - - 0 - - 0 0 0 0 0\nact 2 4 1 0 - - 0 - - 0 0 0 0 0\nact 3 4 1 0 - - 0 - - 0 0 0 0 0\n"; prints = "2 placed 0 1\n3 placed 1 2\n1 refused U\nend 2 1 0 0\n" }
     ∷ []
 
--- three and four letters: any one left out gives a start
+-- three and four letters: any one left out gives a start; and S alone would do, but it is dropped before V
 unfoldable pub letterExamples : List Example
 letterExamples =
-    record { plan = "plan 8 0 1 0 0 0 0 0 0 0 0\nact 1 0 1 0 3:3 - - - - 0 0 0 0 0\nact 2 0 1 0 5:5 - - - 1=3 0 0 0 0 0\nact 3 1 1 0 2:2,6:6 1 - 1=0 - 0 0 0 0 0\n"; prints = "1 placed 3 4\n2 placed 5 6\n3 refused WDS\nend 2 1 0 0\n" }
+    record { plan = "plan 2 0 1 0 0 0 0 0 0 1 0\nact 1 0 1 0 - - - 0=1 - 0 0 0 2 0\n"; prints = "1 refused V\nend 0 1 0 0\n" }
+    ∷ record { plan = "plan 8 0 1 0 0 0 0 0 0 0 0\nact 1 0 1 0 3:3 - - - - 0 0 0 0 0\nact 2 0 1 0 5:5 - - - 1=3 0 0 0 0 0\nact 3 1 1 0 2:2,6:6 1 - 1=0 - 0 0 0 0 0\n"; prints = "1 placed 3 4\n2 placed 5 6\n3 refused WDS\nend 2 1 0 0\n" }
     ∷ record { plan = "plan 8 0 1 0 0 0 0 0 0 0 0\nact 1 0 1 0 3:3 - - - - 0 0 0 0 0\nact 2 0 1 0 5:5 - 0 - 1=3 0 0 0 0 0\nact 3 1 1 0 2:2,5:6 1 0 1=0 - 0 0 0 0 0\n"; prints = "1 placed 3 4\n2 placed 5 6\n3 refused WDUS\nend 2 1 0 0\n" }
     ∷ []
 

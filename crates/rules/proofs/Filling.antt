@@ -8,7 +8,7 @@ use mathlib.Core.List.{List, [], _∷_}
 use native.Mathlib.Omega.{arith}
 use lib.Dec.{leb, ltb}
 use lib.ListN.{length}
-use borrow.Author.Tests.{leb-true}
+use borrow.Author.Tests.{ltb-false}
 use Rattle.rules.specs.Conditions.{allConditions}
 use Rattle.rules.specs.Reading.{Reading, accepted, refused, reading}
 use Rattle.rules.specs.Report.{report}
@@ -31,11 +31,11 @@ right-cond room false f g F G = G
 
 right-filling : {A : Type 0} (room : ℕ) (xs : List A) → FilledRight room (filling room xs)
 unfolding filling
-right-filling {A} room xs = go (leb (length xs) room) refl
+right-filling {A} room xs = go (ltb room (length xs)) refl
   where
-    go : (t : Bool) → leb (length xs) room ≡ t → FilledRight room (cond t (record { terms = full (length xs ∷ []); written = xs }) (refusing 10 0))
-    go true e = record { refused = λ h. absurd (h refl); counted = λ _. refl; fits = leb-true _ _ e }
-    go false e = right-refusing room 10 0 (omega arith)
+    go : (t : Bool) → ltb room (length xs) ≡ t → FilledRight room (cond t (refusing 10 0) (record { terms = full (length xs ∷ []); written = xs }))
+    go true e = right-refusing room 10 0 (omega arith)
+    go false e = record { refused = λ h. absurd (h refl); counted = λ _. refl; fits = ltb-false _ _ e }
 
 -- ---- over what is read, where a refusal's number is not 0
 report-right : (x : Reading) (room : ℕ) → ((r : Refusal) → x ≡ refused r → 1 ≤ r .number) → FilledRight room (reportOf x room)
@@ -47,9 +47,8 @@ starts-right : (x : Reading) (k m room : ℕ) → ((r : Refusal) → x ≡ refus
 unfolding startsOf
 starts-right (refused r) k m room h = right-refusing room (r .number) (r .line) (h r refl)
 starts-right (accepted p) k m room h =
-    right-cond room (ltb k (length (p .activities))) _ _
-    (right-cond room (leb m allConditions) _ _ (right-filling room (runs p k m)) (right-refusing room 12 0 (omega arith)))
-    (right-refusing room 11 0 (omega arith))
+    right-cond room (leb (length (p .activities)) k) _ _ (right-refusing room 11 0 (omega arith))
+    (right-cond room (ltb allConditions m) _ _ (right-refusing room 12 0 (omega arith)) (right-filling room (runs p k m)))
 
 pub report-call-right : (s : List ℕ) (room : ℕ) → FilledRight room (reportCall s room)
 unfolding reportCall

@@ -11,7 +11,7 @@ use lib.Dec.{eqb}
 use lib.ListN.{length, getD, length-append, List·getD-append}
 use lib.Seq.{append-snoc, getD-append-seam}
 use borrow.Author.Tests.{eq-eqb, ne-eqb}
-use Rattle.rules.specs.Tests.{any}
+use Rattle.rules.specs.Tests.{anyOf}
 use Rattle.rules.specs.Plan.{Activity}
 use Rattle.rules.specs.Outcomes.{noActivity}
 use Rattle.rules.specs.Reading.{hasId, misplaced}
@@ -23,8 +23,8 @@ abbrev pub Distinct : List Activity → Type 0
 Distinct xs = (i j : ℕ) → i < j → j < length xs → getD xs i noActivity .id ≢ getD xs j noActivity .id
 
 -- a test that fails at each place holds nowhere
-any-none : {A : Type 0} (p : A → Bool) (xs : List A) (d : A) → ((i : ℕ) → i < length xs → p (getD xs i d) ≡ false) → any p xs ≡ false
-unfolding any
+any-none : {A : Type 0} (p : A → Bool) (xs : List A) (d : A) → ((i : ℕ) → i < length xs → p (getD xs i d) ≡ false) → anyOf p xs ≡ false
+unfolding anyOf
 any-none p [] d f = refl
 any-none p (x ∷ xs) d f = rw (f 0 (omega arith)) (any-none p xs d (λ i l. f (suc i) (omega arith)))
 
@@ -46,7 +46,7 @@ Named ys = (k id : ℕ) → k < length ys → List·Memᴰ id (getD ys k noActiv
 module _ (ys : List Activity) (named : Named ys) where
   -- with the places of `front` behind, whose ids are among the earlier ones
   none-after : (front earlier rest : List Activity) → front ++ rest ≡ ys → ((j : ℕ) → j < length front → hasId (getD ys j noActivity .id) earlier ≡ true) → misplaced earlier rest ≡ none
-  unfolding misplaced hasId any
+  unfolding misplaced hasId anyOf
   none-after front earlier [] e has = refl
   none-after front earlier (a ∷ rest) e has =
       let here : getD ys (length front) noActivity ≡ a = ap (λ (l : List Activity). getD l (length front) noActivity) (sym e) ∙ getD-append-seam front a rest noActivity in

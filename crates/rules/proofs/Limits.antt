@@ -13,7 +13,6 @@ use borrow.Author.Tests.{leb-true, ltb-true, eqb-true, not-true}
 use Rattle.rules.specs.Plan.{Header, Activity, Setting, Entry, Schedule, at, end}
 use Rattle.rules.specs.Tests.{each, every, total}
 use Rattle.rules.specs.Hold.{holds}
-use Rattle.rules.specs.Load.{load, loadKept}
 use Rattle.rules.specs.MeetsU.{share, clash, meetsU, unitsKept}
 use Rattle.rules.specs.MeetsS.{standing, met, needsKept}
 use Rattle.rules.specs.MeetsE.{enginesKept}
@@ -23,13 +22,10 @@ use Rattle.rules.specs.MeetsV.{volumeKept}
 use Rattle.rules.specs.Demand.{nth, Limits}
 use Rattle.rules.proofs.Tests.{each-at, ever-at, every-at, every-mem, and-left, and-right, and-both, both-ways}
 use Rattle.rules.specs.Kept.{Kept}
+use Rattle.rules.proofs.Local.{load-kept}
 
 le-of : {a b : ℤ} → leZ a b ≡ true → a ≤ℤ b
 le-of e = leZ-yes (subst T (sym e) tt)
-
-loadKept-at : (f : Activity → ℕ) (limit : ℕ) (h : Header) (ps : Schedule) → loadKept f limit h ps ≡ true → (t : ℕ) → t < h .horizon → load f ps t ≤ limit
-unfolding loadKept
-loadKept-at f limit h ps e t k = leb-true _ _ (each-at (λ t. leb (load f ps t) limit) (h .horizon) t e k)
 
 -- a test of U
 clear : (h : Header) (p q : Entry) (t : ℕ) → not (clash h p q) ≡ true → t < h .horizon → share p q ≡ true → holds t p ≡ true → holds t q ≡ true → ⊥
@@ -57,14 +53,20 @@ met-at h ps e i t k f n m =
     let same : p .start + (t - p .start) ≡ t = omega arith in
     eqb-true _ _ (subst (λ (u : ℕ). met ps u n ≡ true) same then)
 
-pub limits : (h : Header) (ps : Schedule) → Kept h ps → Limits h ps
+-- a tick that one holds lies in the plan if it ends by the horizon
+in-plan : (h : Header) (e : Entry) (t : ℕ) → end e ≤ h .horizon → holds t e ≡ true → t < h .horizon
+unfolding holds
+in-plan h e t l f = let till : t < end e = ltb-true _ _ (and-right (leb (e .start) t) _ f) in omega arith
+
+pub limits : (h : Header) (ps : Schedule) → Kept h ps → ((i : ℕ) → i < length ps → end (nth ps i) ≤ h .horizon) → Limits h ps
 unfolding enginesKept peaksKept chargeKept volumeKept
-limits h ps K =
+limits h ps K T =
     record {
-      units = apart-at h ps (K .units);
+      inTime = T;
+      units = λ i j t l m s a b. apart-at h ps (K .units) i j t l m (in-plan h (nth ps j) t (T j m) b) s a b;
       needs = met-at h ps (K .needs);
-      engines = loadKept-at _ _ h ps (K .engines);
-      peaks = loadKept-at _ _ h ps (K .peaks);
+      engines = load-kept _ _ h ps .0 (K .engines);
+      peaks = load-kept _ _ h ps .0 (K .peaks);
       floor = λ t k. le-of (each-at (λ t. leZ (pos (h .floor)) (charge h ps t)) (suc (h .horizon)) t (and-left _ _ (K .charge)) (omega arith));
       handover = le-of (and-right (each (λ t. leZ (pos (h .floor)) (charge h ps t)) (suc (h .horizon))) _ (K .charge));
       volume = leb-true _ _ (K .volume);

@@ -8,7 +8,7 @@ use native.Mathlib.Omega.{arith}
 use native.Mathlib.Nat.{not-suc-le-zero}
 use lib.ListN.{length, getD, drop, length-append, List·getD-append}
 use lib.Seq.{getD-append-seam}
-use Rattle.rules.specs.Tests.{any}
+use Rattle.rules.specs.Tests.{anyOf}
 use Rattle.rules.proofs.Tests.{last-or, both-ways}
 use Rattle.rules.proofs.Says.{one-holds}
 
@@ -46,16 +46,16 @@ module _ {A : Type 0} (d : A) where
   at-mem (x ∷ xs) (suc i) h = List·Memᴰ·tail (at-mem xs i (omega arith))
 
   -- an element that passes stands at an index, and if there is none, each fails
-  pub any-found : (p : A → Bool) (xs : List A) → any p xs ≡ true → (i : ℕ) × (i < length xs) × (p (getD xs i d) ≡ true)
-  unfolding any
+  pub any-found : (p : A → Bool) (xs : List A) → anyOf p xs ≡ true → (i : ℕ) × (i < length xs) × (p (getD xs i d) ≡ true)
+  unfolding anyOf
   any-found p [] e = absurd (both-ways e refl)
   any-found p (x ∷ xs) e =
-      one-holds (p x) (any p xs) e
+      one-holds (p x) (anyOf p xs) e
       (λ q. (0, omega arith, q))
       (λ f. let r = any-found p xs f in (suc (r .0), omega (arith, r .1), r .2))
 
-  pub any-none : (p : A → Bool) (xs : List A) → any p xs ≡ false → (i : ℕ) → i < length xs → p (getD xs i d) ≡ false
-  unfolding any
+  pub any-none : (p : A → Bool) (xs : List A) → anyOf p xs ≡ false → (i : ℕ) → i < length xs → p (getD xs i d) ≡ false
+  unfolding anyOf
   any-none p [] e i h = absurd (not-suc-le-zero h)
   any-none p (x ∷ xs) e zero h = or-none (p x) e .0
   any-none p (x ∷ xs) e (suc i) h = any-none p xs (or-none (p x) e .1) i (omega arith)

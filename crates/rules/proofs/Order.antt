@@ -11,7 +11,7 @@ use lib.Dec.{leb}
 use lib.ListN.{length}
 use borrow.Author.Tests.{leb-true, leb-false}
 use Rattle.rules.specs.Plan.{Activity}
-use Rattle.rules.specs.Order.{insert, order}
+use Rattle.rules.specs.Order.{insertByPriority, order}
 use Rattle.rules.specs.OrderRight.{nthActivity, OrderRight}
 use Rattle.rules.proofs.Cases.{from-or}
 
@@ -64,8 +64,8 @@ record Inserted (a : Activity) (bs cs : List Activity) (i : ℕ) : Type 0 where
 in-front : (a : Activity) (bs : List Activity) → (0 < length bs → a .priority ≤ nthActivity bs 0 .priority) → Inserted a bs (a ∷ bs) 0
 in-front a bs l = record { count = refl; place = omega arith; there = refl; kept = λ k. refl; lower = λ k h. absurd (not-suc-le-zero h); next = l }
 
-inserted : (a : Activity) (bs : List Activity) → (i : ℕ) × Inserted a bs (insert a bs) i
-unfolding insert
+inserted : (a : Activity) (bs : List Activity) → (i : ℕ) × Inserted a bs (insertByPriority a bs) i
+unfolding insertByPriority
 inserted a [] = (0, in-front a [] (λ h. absurd (not-suc-le-zero h)))
 inserted a (b ∷ bs) = go (leb (a .priority) (b .priority)) refl (inserted a bs)
   where
@@ -80,9 +80,9 @@ inserted a (b ∷ bs) = go (leb (a .priority) (b .priority)) refl (inserted a bs
         lower zero h = l
         lower (suc k) h = I .lower k (omega arith)
 
-    go : (t : Bool) → leb (a .priority) (b .priority) ≡ t → ((i : ℕ) × Inserted a bs (insert a bs) i) → (i : ℕ) × Inserted a (b ∷ bs) (cond t (a ∷ b ∷ bs) (b ∷ insert a bs)) i
+    go : (t : Bool) → leb (a .priority) (b .priority) ≡ t → ((i : ℕ) × Inserted a bs (insertByPriority a bs) i) → (i : ℕ) × Inserted a (b ∷ bs) (cond t (a ∷ b ∷ bs) (b ∷ insertByPriority a bs)) i
     go true e (i, I) = (0, in-front a (b ∷ bs) (λ h. leb-true (a .priority) (b .priority) e))
-    go false e (i, I) = (suc i, later (insert a bs) i (leb-false (a .priority) (b .priority) e) I)
+    go false e (i, I) = (suc i, later (insertByPriority a bs) i (leb-false (a .priority) (b .priority) e) I)
 
 -- a line before those of a list in order
 module _ (a : Activity) (rest bs cs : List Activity) (i : ℕ) (I : Inserted a bs cs i) (O : OrderRight rest bs) where
@@ -161,7 +161,7 @@ order-right [] =
       rising = λ j k l h. absurd (not-suc-le-zero h);
       then = λ j k l h. absurd (not-suc-le-zero h);
     }
-order-right (a ∷ rest) = let w = inserted a (order rest) in more a rest (order rest) (insert a (order rest)) (w .0) (w .1) (order-right rest)
+order-right (a ∷ rest) = let w = inserted a (order rest) in more a rest (order rest) (insertByPriority a (order rest)) (w .0) (w .1) (order-right rest)
 
 pub order-length : (xs : List Activity) → length (order xs) ≡ length xs
 order-length xs = order-right xs .count

@@ -11,7 +11,7 @@ use native.Mathlib.Omega.{arith}
 use lib.Dec.{eqb}
 use lib.ListN.{length, getD}
 use borrow.Author.Tests.{eqb-true, eqb-false, eq-eqb, ne-eqb}
-use Rattle.rules.specs.Tests.{every, any}
+use Rattle.rules.specs.Tests.{every, anyOf}
 use Rattle.rules.specs.Plan.{Activity}
 use Rattle.rules.specs.Order.{order}
 use Rattle.rules.specs.OrderRight.{OrderRight}
@@ -44,7 +44,7 @@ AfterTold earlier ys (some a) = Unnamed earlier ys a
 -- with a in front, whose own ids are those of earlier ones
 module _ (earlier : List Activity) (a : Activity) (ys : List Activity) (e : every (λ id. hasId id earlier) (a .after) ≡ true) where
   named-next : (n : ℕ) → NamedAfter (a ∷ earlier) ys n → NamedAfter earlier (a ∷ ys) (suc n)
-  unfolding hasId any
+  unfolding hasId anyOf
   named-next n t zero id h m f = absurd (both-ways (every-mem (λ id. hasId id earlier) (a .after) e m) f)
   named-next n t (suc k) id h m f =
       either-way (eqb (a .id) id)
@@ -52,7 +52,7 @@ module _ (earlier : List Activity) (a : Activity) (ys : List Activity) (e : ever
       (λ q. let r = t k id (omega arith) m (rw (q, f)) in (suc (r .0), omega (arith, r .1), r .2))
 
   unnamed-next : (b : Activity) → Unnamed (a ∷ earlier) ys b → Unnamed earlier (a ∷ ys) b
-  unfolding hasId any
+  unfolding hasId anyOf
   unnamed-next b t =
       record {
         place = suc (t .place);

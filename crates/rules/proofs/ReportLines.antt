@@ -70,3 +70,10 @@ module _ (p : Plan) where
       rw append-assoc (last-or (λ i. getD (lines (outcomeLines p k ++ (l ++ rest))) i [] ≡ outcomeLine (activityAt p i) (outcome p i)) k j h
       (ap (λ i. getD (lines (outcomeLines p k ++ (l ++ rest))) i []) (sym (add-zero k)) ∙ lines-behind k 0 (l ++ rest) ∙ ap (λ ls. getD ls 0 []) (outcome-line (activityAt p k) (outcome p k) rest))
       (line-of-place k j (l ++ rest)))
+
+  pub lines-count : (k : ℕ) (rest : List ℕ) → length (lines (outcomeLines p k ++ rest)) ≡ k + length (lines rest)
+  unfolding outcomeLines
+  lines-count zero rest = rw zero-add
+  lines-count (suc k) rest =
+      let l : List ℕ = outcomeLine (activityAt p k) (outcome p k) in
+      rw append-assoc (lines-count k (l ++ rest) ∙ omega (arith, ap length (outcome-line (activityAt p k) (outcome p k) rest)))

@@ -5,10 +5,16 @@ use mathlib.Core.Logic.{_≢_}
 use mathlib.Core.Bool.{Bool, true, false, _&&_, _||_, not, Bool·beq}
 use native.Mathlib.Omega.{arith}
 use lib.Dec.{eqb}
+use lib.ListN.{length}
 use borrow.Author.Tests.{eq-eqb, ne-eqb}
 use Rattle.rules.specs.Tests.{each}
-use Rattle.rules.specs.Conditions.{conditionCount, allConditions, has, meetsSet}
+use Rattle.rules.specs.Conditions.{conditionCount, allConditions, conditions, conditionLetters, has, meetsSet}
 use Rattle.rules.proofs.Tests.{each-at, each-all, and-left, and-right, and-both, both-ways, or-left, or-right}
+
+-- the number of conditions, of letters and of sets
+pub counted : (length conditions ≡ conditionCount) × (length conditionLetters ≡ conditionCount) × (suc allConditions ≡ 2 ^ conditionCount)
+unfolding conditions conditionLetters
+counted = (refl, refl, refl)
 
 -- without b, a set has c if it had c and c is not b
 without : ℕ → ℕ → ℕ → Bool

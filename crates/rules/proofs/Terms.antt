@@ -6,7 +6,7 @@ use mathlib.Core.List.{List, [], _∷_, _++_}
 use native.Mathlib.Omega.{arith}
 use lib.ListN.{length, getD, drop, length-append, length-drop, List·getD-append}
 use lib.Seq.{getD-append-add, getD-drop}
-use Rattle.rules.specs.Calls.{refusal, full, outcomeValues, outcomeTerms, countTerms, after}
+use Rattle.rules.specs.Calls.{refusal, full, outcomeValues, outcomeTerms, countTerms, sliceAfter}
 use Rattle.rules.specs.declared.Outcome.{Outcome}
 use Rattle.rules.specs.declared.Outcome.the-variants.{Placed, Refused}
 use Rattle.rules.specs.declared.Refusal.{Refusal}
@@ -51,22 +51,22 @@ count-terms-differ (CountNo q) (CountNo r) e = ap CountNo (same-refusal q r e)
 
 -- ---- a lent slice after a call
 module _ {A : Type 0} where
-  pub after-nothing : (lent : List A) → after [] lent ≡ lent
-  unfolding after
+  pub after-nothing : (lent : List A) → sliceAfter [] lent ≡ lent
+  unfolding sliceAfter
   after-nothing lent = refl
 
-  pub after-length : (written lent : List A) → length written ≤ length lent → length (after written lent) ≡ length lent
-  unfolding after
+  pub after-length : (written lent : List A) → length written ≤ length lent → length (sliceAfter written lent) ≡ length lent
+  unfolding sliceAfter
   after-length written lent h = simp (length-append, length-drop) (omega arith)
 
   -- what is written stands in front
-  pub after-front : (written lent : List A) (i : ℕ) (d : A) → i < length written → getD (after written lent) i d ≡ getD written i d
-  unfolding after
+  pub after-front : (written lent : List A) (i : ℕ) (d : A) → i < length written → getD (sliceAfter written lent) i d ≡ getD written i d
+  unfolding sliceAfter
   after-front written lent i d h = List·getD-append written _ d i h
 
   -- "Bytes and records behind the answer remain"
-  pub after-behind : (written lent : List A) (i : ℕ) (d : A) → length written ≤ i → getD (after written lent) i d ≡ getD lent i d
-  unfolding after
+  pub after-behind : (written lent : List A) (i : ℕ) (d : A) → length written ≤ i → getD (sliceAfter written lent) i d ≡ getD lent i d
+  unfolding sliceAfter
   after-behind written lent i d h =
       let e : length written + (i - length written) ≡ i = omega arith in
       subst (λ (j : ℕ). getD (written ++ drop (length written) lent) j d ≡ getD lent j d) e

@@ -15,4 +15,5 @@ pub record Acceptance : Type 0 where
   pub printed : (s : List ℕ) (p : Plan) → reading s ≡ accepted p → planText p ≡ s
   -- the printed form of a well-formed plan is accepted as that plan
   pub read : (p : Plan) → WellFormed p → Reachable p → reading (planText p) ≡ accepted p
+  -- so the two are the same files
   pub exactly : (s : List ℕ) → ((p : Plan) × (reading s ≡ accepted p)) ↔ ((p : Plan) × WellFormed p × Reachable p × (planText p ≡ s))

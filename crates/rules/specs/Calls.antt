@@ -47,7 +47,7 @@ countTerms (CountNo r) = refusal (r .number) (r .line)
 -- *Outcome*: a place
 unfoldable pub outcomeOf : Reading → ℕ → Terms
 outcomeOf (refused r) k = refusal (r .number) (r .line)
-outcomeOf (accepted p) k = cond (ltb k (length (p .activities))) (full (outcomeValues (outcome p k))) (refusal 11 0)
+outcomeOf (accepted p) k = cond (leb (length (p .activities)) k) (refusal 11 0) (full (outcomeValues (outcome p k)))
 
 unfoldable pub outcomeCall : List ℕ → ℕ → Terms
 outcomeCall s k = outcomeOf (reading s) k
@@ -58,16 +58,16 @@ pub record Filled (A : Type 0) : Type 0 where
   pub written : List A
 
 -- a lent slice after the call: "Bytes and records behind the answer remain"
-unfoldable pub after : {A : Type 0} → List A → List A → List A
-after written lent = written ++ drop (length written) lent
+unfoldable pub sliceAfter : {A : Type 0} → List A → List A → List A
+sliceAfter written lent = written ++ drop (length written) lent
 
 -- no result: the lent slice is as it was
 abbrev pub refusing : {A : Type 0} → ℕ → ℕ → Filled A
 refusing k n = record { terms = refusal k n; written = [] }
 
--- the result xs into a slice of `room` elements: its length, or 10
+-- the result xs into a slice of `room` elements: 10, or its length
 unfoldable pub filling : {A : Type 0} → ℕ → List A → Filled A
-filling room xs = cond (leb (length xs) room) (record { terms = full (length xs ∷ []); written = xs }) (refusing 10 0)
+filling room xs = cond (ltb room (length xs)) (refusing 10 0) (record { terms = full (length xs ∷ []); written = xs })
 
 -- *Report*: an output slice of `room` bytes; "answers the length written"
 unfoldable pub reportOf : Reading → ℕ → Filled ℕ
@@ -81,13 +81,13 @@ reportCall s room = reportOf (reading s) room
 unfoldable pub runs : Plan → ℕ → ℕ → List Interval
 runs p k m = let a = activityAt p k in runsFrom (meetsSet (meets (p .header) (placed p k) a) m) 0 (starts (p .header) a)
 
--- *Starts*: a place, a set of conditions, and a lent list of `room` records; "answers their count"
+-- *Starts*: a place, a set of conditions, and a lent list of `room` records (of two slices, the shorter one's length); "answers their count"
 unfoldable pub startsOf : Reading → ℕ → ℕ → ℕ → Filled Interval
 startsOf (refused r) k m room = refusing (r .number) (r .line)
 startsOf (accepted p) k m room =
-    cond (ltb k (length (p .activities)))
-    (cond (leb m allConditions) (filling room (runs p k m)) (refusing 12 0))
-    (refusing 11 0)
+    cond (leb (length (p .activities)) k) (refusing 11 0)
+    (cond (ltb allConditions m) (refusing 12 0)
+    (filling room (runs p k m)))
 
 unfoldable pub startsCall : List ℕ → ℕ → ℕ → ℕ → Filled Interval
 startsCall s k m room = startsOf (reading s) k m room

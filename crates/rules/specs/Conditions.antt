@@ -1,6 +1,6 @@
 -- The nine conditions by number, and sets of them (01, Calls: "W 1, D 2, U 4, S 8, E 16, P 32, B 64, V 128, H 256, added").
 use Prim.Native.Nat.{ℕ, suc, _^_, _/_, _%_}
-use mathlib.Core.Bool.{Bool, true, cond, _||_, not}
+use mathlib.Core.Bool.{Bool, false, cond, _||_, not}
 use mathlib.Core.List.{List, [], _∷_}
 use lib.Dec.{eqb}
 use lib.ListN.{getD}
@@ -36,7 +36,7 @@ conditionLetters = bytes "WDUSEPBVH"
 
 -- condition number c, from 0, at the start s
 unfoldable pub meets : Header → Schedule → Activity → ℕ → ℕ → Bool
-meets h placed a c s = getD conditions c (λ h placed a s. true) h placed a s
+meets h placed a c s = getD conditions c (λ h placed a s. false) h placed a s
 
 -- the set m has condition number c
 unfoldable pub has : ℕ → ℕ → Bool

@@ -3,13 +3,14 @@ use Prim.Native.Nat.{ℕ, zero, suc, _+_, _<_, _≤_}
 use mathlib.Core.Path.{_≡_}
 use mathlib.Core.Logic.{_↔_, _≢_}
 use mathlib.Core.Bool.{true}
-use mathlib.Core.List.{List, [], List·Memᴰ}
+use mathlib.Core.List.{List, [], _++_, List·Memᴰ}
 use lib.IntN.{pos}
 use lib.ListN.{length, getD}
 use lib.Signed.{_≤ℤ_}
-use Rattle.rules.specs.Plan.{Header, Activity, Setting, Plan, Entry, Schedule, at}
+use Rattle.rules.specs.Plan.{Header, Activity, Setting, Plan, Entry, Schedule, at, end, mostActivities}
 use Rattle.rules.specs.Lines.{lines}
 use Rattle.rules.specs.Hold.{holds}
+use Rattle.rules.specs.Reading.{accepted, reading}
 use Rattle.rules.specs.Load.{load}
 use Rattle.rules.specs.MeetsU.{share}
 use Rattle.rules.specs.MeetsS.{standing}
@@ -17,8 +18,8 @@ use Rattle.rules.specs.MeetsB.{charge}
 use Rattle.rules.specs.MeetsV.{totalVolume}
 use Rattle.rules.specs.Conditions.{conditionCount, allConditions, meets, has}
 use Rattle.rules.specs.Outcomes.{distance, added, noActivity, activityAt}
-use Rattle.rules.specs.Report.{outcomeLine, endLine}
-use Rattle.rules.specs.Calls.{full, outcomeValues, outcomeCall, reportCall}
+use Rattle.rules.specs.Report.{outcomeLine, endLine, output}
+use Rattle.rules.specs.Calls.{full, outcomeValues, outcomeCall, filling, reportCall}
 use Rattle.rules.specs.declared.Outcome.{Outcome}
 use Rattle.rules.specs.declared.Outcome.the-variants.{Placed, Refused}
 
@@ -40,6 +41,8 @@ module _ (h : Header) (before : Schedule) (a : Activity) where
     pub none : (s : ℕ) → Start h a s → ((c : ℕ) → c < conditionCount → has m c ≡ true → meets h before a c s ≡ true) → ⊥
     -- "leaving out any one of them gives a start that meets the rest"
     pub least : (b : ℕ) → b < conditionCount → has m b ≡ true → (s : ℕ) × Start h a s × ((c : ℕ) → c < conditionCount → has m c ≡ true → c ≢ b → meets h before a c s ≡ true)
+    -- "goes through W D U S E P B V H in turn, dropping a letter when the others kept have no start in common" (01): at letter b's turn those kept are the earlier letters of m and all the later ones
+    pub turn : (b : ℕ) → b < conditionCount → (has m b ≡ true) ↔ ((s : ℕ) × Start h a s × ((c : ℕ) → c < conditionCount → c ≢ b → (c < b → has m c ≡ true) → meets h before a c s ≡ true))
 
   -- a is rightly placed at s
   pub record PlacedAt (s : ℕ) : Type 0 where
@@ -62,8 +65,10 @@ nth ps i = getD ps i (at noActivity 0)
 
 -- "The finished schedule breaks no limit of the plan at any tick"
 pub record Limits (h : Header) (ps : Schedule) : Type 0 where
+  -- each ends by the horizon
+  pub inTime : (i : ℕ) → i < length ps → end (nth ps i) ≤ h .horizon
   -- no two that share a unit hold one tick
-  pub units : (i j t : ℕ) → i < j → j < length ps → t < h .horizon → share (nth ps i) (nth ps j) ≡ true → holds t (nth ps i) ≡ true → holds t (nth ps j) ≡ true → ⊥
+  pub units : (i j t : ℕ) → i < j → j < length ps → share (nth ps i) (nth ps j) ≡ true → holds t (nth ps i) ≡ true → holds t (nth ps j) ≡ true → ⊥
   -- every need is met in each tick that the needing activity holds
   pub needs : (i t : ℕ) → i < length ps → holds t (nth ps i) ≡ true → (n : Setting) → List·Memᴰ n (nth ps i .activity .needs) → standing ps (n .variable) t .value ≡ n .value
   pub engines : (t : ℕ) → t < h .horizon → load (λ a. a .engines) ps t ≤ h .engines
@@ -77,16 +82,32 @@ abbrev pub placedBy : Plan → (ℕ → Outcome) → ℕ → Schedule
 placedBy p answers zero = []
 placedBy p answers (suc k) = added (answers k) (activityAt p k) (placedBy p answers k)
 
+-- the lines of the first k places as the answers give them
+abbrev pub linesBy : Plan → (ℕ → Outcome) → ℕ → List ℕ
+linesBy p answers zero = []
+linesBy p answers (suc k) = linesBy p answers k ++ outcomeLine (activityAt p k) (answers k)
+
+-- the report as the answers give it
+abbrev pub reportBy : Plan → (ℕ → Outcome) → List ℕ
+reportBy p answers = let n = length (p .activities) in linesBy p answers n ++ endLine (p .header) n (placedBy p answers n)
+
 pub record Demand3 (s : List ℕ) (p : Plan) : Type 0 where
   -- the outcome at each place
   pub answers : ℕ → Outcome
-  pub few : length (p .activities) ≤ 64
+  pub few : length (p .activities) ≤ mostActivities
   -- "the outcome call gives the answer that document 01 lays down"
   pub called : (k : ℕ) → k < length (p .activities) → outcomeCall s k ≡ full (outcomeValues (answers k))
   pub right : (k : ℕ) → k < length (p .activities) → Right (p .header) (placedBy p answers k) (activityAt p k) (answers k)
-  -- "and so does the line of that place in every report written"
-  pub line : (room k : ℕ) → reportCall s room .terms .number ≡ 0 → k < length (p .activities) → getD (lines (reportCall s room .written)) k [] ≡ outcomeLine (activityAt p k) (answers k)
-  -- the end line is that of the finished schedule
-  pub last : (room : ℕ) → reportCall s room .terms .number ≡ 0 → getD (lines (reportCall s room .written)) (length (p .activities)) [] ≡ endLine (p .header) (length (p .activities)) (placedBy p answers (length (p .activities)))
+  -- every report written is the answers' own, by the report call and by the program
+  pub report : (room : ℕ) → reportCall s room ≡ filling room (reportBy p answers)
+  pub printed : output s ≡ reportBy p answers
+  -- "and so does the line of that place in every report written": its lines are those of the places, then the end line
+  pub lineCount : length (lines (reportBy p answers)) ≡ suc (length (p .activities))
+  pub line : (k : ℕ) → k < length (p .activities) → getD (lines (reportBy p answers)) k [] ≡ outcomeLine (activityAt p k) (answers k)
+  pub last : getD (lines (reportBy p answers)) (length (p .activities)) [] ≡ endLine (p .header) (length (p .activities)) (placedBy p answers (length (p .activities)))
   -- "The finished schedule breaks no limit of the plan at any tick"
   pub whole : Limits (p .header) (placedBy p answers (length (p .activities)))
+
+-- demand 3: "For every plan that document 01 accepts"
+abbrev pub DemandThree : Type 0
+DemandThree = (s : List ℕ) (p : Plan) → reading s ≡ accepted p → Demand3 s p

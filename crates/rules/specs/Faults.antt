@@ -7,7 +7,7 @@ use lib.IntN.{pos}
 use lib.ListN.{length, getD}
 use lib.Signed.{_<ℤ_}
 use Rattle.rules.specs.Bytes.{bytes}
-use Rattle.rules.specs.Plan.{Header, Activity, Plan}
+use Rattle.rules.specs.Plan.{Header, Activity, Plan, mostActivities}
 use Rattle.rules.specs.Lines.{lines, fields}
 use Rattle.rules.specs.MeetsB.{charge}
 use Rattle.rules.specs.Outcomes.{noActivity, activityAt}
@@ -24,7 +24,7 @@ lineAt s (suc i) = getD (lines s) i []
 pub record Begins (s : List ℕ) (h : Header) (xs : List Activity) : Type 0 where
   pub header : HeaderFormed h
   pub headerLine : headerText h ≡ lineAt s 1
-  pub few : length xs ≤ 64
+  pub few : length xs ≤ mostActivities
   pub each : (i : ℕ) → i < length xs → ActivityFormed h (getD xs i noActivity)
   pub activityLine : (i : ℕ) → i < length xs → activityText (getD xs i noActivity) ≡ lineAt s (suc (suc i))
   pub ids : (i j : ℕ) → i < j → j < length xs → getD xs i noActivity .id ≢ getD xs j noActivity .id
@@ -33,10 +33,10 @@ pub record Begins (s : List ℕ) (h : Header) (xs : List Activity) : Type 0 wher
 pub data ActivityFault (h : Header) (xs : List Activity) (l : List ℕ) : ℕ → Type 0 where
   act-line : LineFault (bytes "act") 15 l → ActivityFault h xs l 2
   -- "65th activity line"
-  line-65 : LineFormed (bytes "act") 15 l → length xs ≡ 64 → ActivityFault h xs l 5
-  act-field : {k : ℕ} → LineFormed (bytes "act") 15 l → length xs < 64 → FieldsFault (actForms (h .horizon)) (fields l) k → ActivityFault h xs l k
+  line-65 : LineFormed (bytes "act") 15 l → length xs ≡ mostActivities → ActivityFault h xs l 5
+  act-field : {k : ℕ} → LineFormed (bytes "act") 15 l → length xs < mostActivities → FieldsFault (actForms (h .horizon)) (fields l) k → ActivityFault h xs l k
   -- "id of an earlier line"
-  same-id : length xs < 64 → (a : Activity) → ActivityFormed h a → activityText a ≡ l → (i : ℕ) → i < length xs → getD xs i noActivity .id ≡ a .id → ActivityFault h xs l 6
+  same-id : length xs < mostActivities → (a : Activity) → ActivityFormed h a → activityText a ≡ l → (i : ℕ) → i < length xs → getD xs i noActivity .id ≡ a .id → ActivityFault h xs l 6
 
 -- each id in `after` at the places before n is that of an activity at an earlier place
 abbrev pub Named : Plan → ℕ → Type 0

@@ -3,7 +3,7 @@ use Prim.Native.Nat.{ℕ, suc}
 use mathlib.Core.Bool.{Bool, true, cond, not, _&&_}
 use mathlib.Core.List.{List, [], _∷_, map}
 use lib.Dec.{leb, eqb}
-use lib.ListN.{length, getD}
+use lib.ListN.{length}
 use Rattle.rules.specs.Bytes.{bytes, same}
 use Rattle.rules.specs.Tests.{every}
 use Rattle.rules.specs.Number.{isNumber, valueOf}
@@ -53,7 +53,7 @@ items k parts =
     (cond (not (rising (k .low) (k .high) 0 (map (k .itemOf) parts) && leb (length parts) (k .most))) (fault 8)
     (value (map (k .itemOf) parts))))
 
--- "A list is `-` when empty, else items parted by commas"
+-- "A list is `-` when empty, else items parted by commas"; an empty field is one empty item, and so 3
 unfoldable pub listField : {A : Type 0} → Kind A → List ℕ → Read (List A)
 listField k s = cond (same s (bytes "-")) (value []) (items k (splitOn 44 s))
 
@@ -69,7 +69,7 @@ isPair b s = eqb (length (splitOn b s)) 2 && every isNumber (splitOn b s)
 unfoldable pub partOf : ℕ → ℕ → List ℕ → ℕ
 partOf b i s = valueOf (field (splitOn b s) i)
 
--- "windows, up to 4, each `a:b` with bounds 0 to 4,095; a window has a ≤ b, and each window begins after the last one's b"
+-- "windows, up to 4, each `a:b` with bounds 0 to 4,095"; "a window has a ≤ b, and each window begins after the last one's b"
 abbrev pub windowKind : Kind Window
 windowKind =
     record {
@@ -81,7 +81,7 @@ windowKind =
       most = 4;
     }
 
--- "needs, up to 4, each `v=k`, variable 0 to 7 and value 0 to 255; sets, up to 4, the same form; the variables rise strictly"
+-- "needs, up to 4, each `v=k`, variable 0 to 7 and value 0 to 255; sets, up to 4, the same form"; the variables "rise strictly"
 abbrev pub settingKind : Kind Setting
 settingKind =
     record {

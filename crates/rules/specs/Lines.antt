@@ -43,6 +43,6 @@ unfoldable pub parted : ℕ → List (List ℕ) → List ℕ
 parted b [] = []
 parted b (w ∷ ws) = w ++ behind b ws
 
--- the line of these fields
+-- the line of these fields, with its LF
 unfoldable pub lineOf : List (List ℕ) → List ℕ
 lineOf fs = parted 9 fs ++ bytes "\n"

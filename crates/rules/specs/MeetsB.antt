@@ -14,7 +14,7 @@ use Rattle.rules.specs.Warmup.{warmup}
 unfoldable pub heats : Header → ℕ → Entry → Bool
 heats h t e = ltb t (e .start) && leb (e .start) (t + warmup h (e .activity) (e .start))
 
--- "all draws and heater draws in tick t"
+-- "all draws and heater draws in tick t"; the heater "isn't shared", so each counts
 unfoldable pub drawn : Header → Schedule → ℕ → ℕ
 drawn h placed t = total (λ e. cond (holds t e) (e .activity .draw) 0 + cond (heats h t e) (h .heater) 0) placed
 

@@ -4,11 +4,11 @@ use mathlib.Core.Bool.{Bool, _&&_}
 use mathlib.Core.List.{List}
 use lib.Dec.{leb, eqb}
 use Rattle.rules.specs.Plan.{Header, Activity, Schedule, end}
-use Rattle.rules.specs.Tests.{every, any}
+use Rattle.rules.specs.Tests.{every, anyOf}
 
 -- the activity of this id is placed and ends by s
 unfoldable pub endedBy : Schedule → ℕ → ℕ → Bool
-endedBy placed s id = any (λ e. eqb (e .activity .id) id && leb (end e) s) placed
+endedBy placed s id = anyOf (λ e. eqb (e .activity .id) id && leb (end e) s) placed
 
 unfoldable pub meetsD : Header → Schedule → Activity → ℕ → Bool
 meetsD h placed a s = every (endedBy placed s) (a .after)

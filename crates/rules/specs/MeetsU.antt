@@ -4,12 +4,12 @@ use mathlib.Core.Bool.{Bool, true, _&&_, not}
 use mathlib.Core.List.{List, [], _∷_}
 use lib.Dec.{eqb}
 use Rattle.rules.specs.Plan.{Header, Activity, Entry, Schedule, at}
-use Rattle.rules.specs.Tests.{ever, any, every}
+use Rattle.rules.specs.Tests.{ever, anyOf, every}
 use Rattle.rules.specs.Hold.{holds}
 
 -- d and e have a unit in common
 unfoldable pub share : Entry → Entry → Bool
-share d e = any (λ u. any (eqb u) (e .activity .units)) (d .activity .units)
+share d e = anyOf (λ u. anyOf (eqb u) (e .activity .units)) (d .activity .units)
 
 -- d and e share a unit and hold one tick
 unfoldable pub clash : Header → Entry → Entry → Bool

@@ -10,7 +10,7 @@ use Rattle.rules.specs.Tests.{every}
 unfoldable pub isDigit : ℕ → Bool
 isDigit b = leb 48 b && leb b 57
 
--- 0 with more digits behind it
+-- a 0 with more behind it
 unfoldable pub leadingZero : List ℕ → Bool
 leadingZero s = ltb 1 (length s) && eqb (getD s 0 0) 48
 

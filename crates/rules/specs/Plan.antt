@@ -4,16 +4,24 @@ use mathlib.Core.List.{List}
 
 -- the first line, after the word `plan`
 pub record Header : Type 0 where
+  -- T
   pub horizon : ℕ
+  -- minute of day at tick 0
   pub minute : ℕ
   pub capacity : ℕ
   pub floor : ℕ
+  -- first charge
   pub first : ℕ
+  -- charging rate per tick
   pub rate : ℕ
+  -- handover charge
   pub handover : ℕ
   pub engines : ℕ
+  -- peak limit
   pub peak : ℕ
+  -- volume limit
   pub volume : ℕ
+  -- heater draw per tick
   pub heater : ℕ
 
 -- `a:b`
@@ -42,6 +50,10 @@ pub record Activity : Type 0 where
   pub draw : ℕ
   pub volume : ℕ
   pub warm : ℕ
+
+-- "None to 64 activities"
+abbrev pub mostActivities : ℕ
+mostActivities = 64
 
 -- the activities in the order of their lines
 pub record Plan : Type 0 where

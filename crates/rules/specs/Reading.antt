@@ -8,8 +8,8 @@ use lib.IntN.{pos}
 use lib.ListN.{length}
 use lib.Signed.{ltZ}
 use Rattle.rules.specs.Bytes.{bytes, same}
-use Rattle.rules.specs.Tests.{every, any}
-use Rattle.rules.specs.Plan.{Header, Activity, Plan}
+use Rattle.rules.specs.Tests.{every, anyOf}
+use Rattle.rules.specs.Plan.{Header, Activity, Plan, mostActivities}
 use Rattle.rules.specs.Lines.{lines, ended, fields, field}
 use Rattle.rules.specs.Fields.{Read, value, fault}
 use Rattle.rules.specs.HeaderLine.{headerOf}
@@ -18,7 +18,7 @@ use Rattle.rules.specs.Order.{order}
 use Rattle.rules.specs.MeetsB.{charge}
 use Rattle.rules.specs.declared.Refusal.{Refusal}
 
--- "A plan is accepted when its bytes alone draw no refusal"
+-- what is read: a plan, or one refusal
 pub data Reading : Type 0 where
   accepted : Plan → Reading
   refused : Refusal → Reading
@@ -37,14 +37,14 @@ onLine n (value a) next = next a
 onLine n (fault k) next = no k n
 
 unfoldable pub hasId : ℕ → List Activity → Bool
-hasId id earlier = any (λ a. eqb (a .id) id) earlier
+hasId id earlier = anyOf (λ a. eqb (a .id) id) earlier
 
 -- the activity lines from line n on, after the activities of earlier lines: 2, 5, the fields, 6
 unfoldable pub activityLines : Header → List Activity → ℕ → List (List ℕ) → Reading
 activityLines h earlier n [] = accepted (record { header = h; activities = earlier })
 activityLines h earlier n (l ∷ rest) =
     cond (not (formed (bytes "act") 15 l)) (no 2 n)
-    (cond (leb 64 (length earlier)) (no 5 n)
+    (cond (leb mostActivities (length earlier)) (no 5 n)
     (onLine n (activityOf h (fields l)) (λ a.
     cond (hasId (a .id) earlier) (no 6 n)
     (activityLines h (earlier ++ (a ∷ [])) (suc n) rest))))
@@ -80,6 +80,6 @@ unfoldable pub afterLines : Reading → Reading
 afterLines (accepted p) = judged p (misplaced [] (order (p .activities)))
 afterLines (refused r) = refused r
 
--- what the plan file s says, or its one refusal: "1 comes first"
+-- what the plan file s says, or its one refusal: "1 comes first"; "A plan is accepted when its bytes alone draw no refusal"
 unfoldable pub reading : List ℕ → Reading
 reading s = cond (ltb 60000 (length s)) (no 1 0) (afterLines (planLines (lines s)))

@@ -19,9 +19,9 @@ every p [] = true
 every p (x ∷ xs) = p x && every p xs
 
 -- p holds of an element
-unfoldable pub any : {A : Type 0} → (A → Bool) → List A → Bool
-any p [] = false
-any p (x ∷ xs) = p x || any p xs
+unfoldable pub anyOf : {A : Type 0} → (A → Bool) → List A → Bool
+anyOf p [] = false
+anyOf p (x ∷ xs) = p x || anyOf p xs
 
 -- the sum of f over the elements
 unfoldable pub total : {A : Type 0} → (A → ℕ) → List A → ℕ

@@ -10,7 +10,10 @@ apart a b = (a - b) + (b - a)
 
 -- "Entry q is 4 + (m div 12), where m is the smaller of |q − 168| and 288 − |q − 168|"
 unfoldable pub warmupEntry : ℕ → ℕ
-warmupEntry q = let m = apart q 168 in 4 + min m (288 - m) / 12
+warmupEntry q =
+    let d = apart q 168 in
+    let m = min d (288 - d) in
+    4 + m / 12
 
 -- w(s), "For start s, q is ((minute of day + s) mod 1,440) div 5", "w(s) = 0 if warm is 0"
 unfoldable pub warmupAt : ℕ → ℕ → ℕ → ℕ

@@ -6,7 +6,7 @@ use mathlib.Core.List.{List, [], _∷_, List·Memᴰ}
 use lib.IntN.{pos}
 use lib.ListN.{length, getD}
 use lib.Signed.{_≤ℤ_}
-use Rattle.rules.specs.Plan.{Header, Window, Setting, Activity, Plan}
+use Rattle.rules.specs.Plan.{Header, Window, Setting, Activity, Plan, mostActivities}
 use Rattle.rules.specs.MeetsB.{charge}
 use Rattle.rules.specs.Outcomes.{noActivity, activityAt}
 
@@ -67,7 +67,7 @@ pub record ActivityFormed (h : Header) (a : Activity) : Type 0 where
 pub record WellFormed (p : Plan) : Type 0 where
   pub header : HeaderFormed (p .header)
   -- "None to 64 activities"
-  pub few : length (p .activities) ≤ 64
+  pub few : length (p .activities) ≤ mostActivities
   pub each : (a : Activity) → List·Memᴰ a (p .activities) → ActivityFormed (p .header) a
   -- no two activities have one id
   pub ids : (i j : ℕ) → i < j → j < length (p .activities) → getD (p .activities) i noActivity .id ≢ getD (p .activities) j noActivity .id
