@@ -1,3 +1,4 @@
+-- The definitions, in the order of document 01.
 pub mod Bytes
 pub mod Tests
 pub mod Plan
@@ -22,17 +23,19 @@ pub mod MeetsH
 pub mod Conditions
 pub mod Answer
 pub mod Outcomes
+pub mod Kept
 pub mod Reading
 pub mod Runs
 pub mod Report
 pub mod Calls
-pub mod Kept
+-- What the theorems say, without the algorithms.
+pub mod OrderRight
+pub mod RunsRight
+pub mod Demand
 pub mod Print
 pub mod WellFormed
 pub mod Acceptance
-pub mod Demand
-pub mod Open
-pub mod RunsRight
-pub mod OrderRight
 pub mod Forms
 pub mod Faults
+-- For proofs alone.
+pub mod Open
