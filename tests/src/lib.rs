@@ -1,0 +1,28 @@
+// A scheduler written from document 01 alone, plans to run it on, and the checks of it.
+
+// The scheduler.
+pub mod calls;
+pub mod conditions;
+pub mod placing;
+pub mod plan;
+pub mod reading;
+
+// Plans made from a seed.
+mod aim;
+mod damage;
+mod extremes;
+pub mod generator;
+mod knots;
+mod random;
+
+// Checks.
+pub mod cases;
+pub mod check;
+mod demand;
+mod faults;
+mod second;
+pub mod tally;
+
+// The stored corpus, and another planner.
+pub mod compare;
+pub mod corpus;

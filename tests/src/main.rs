@@ -1,0 +1,129 @@
+// The commands of `tests/run`.
+
+use differential::calls::output;
+use differential::check::check;
+use differential::compare::{difference, run};
+use differential::corpus;
+use differential::generator::{fixed, generate, Generated};
+use differential::tally::Tally;
+use std::io::{Read, Write};
+use std::panic::{catch_unwind, AssertUnwindSafe};
+use std::path::Path;
+use std::process::ExitCode;
+
+const USE: &str = "differential check FIRST COUNT FOLDER            the scheduler's own check on COUNT seeds
+differential compare PLANNER FIRST COUNT FOLDER  a planner against the scheduler
+differential stored CORPUS FOLDER                the stored corpus: its answers and the check of its plans
+differential corpus CORPUS                       write the corpus anew
+differential answers                             answers to a corpus stream on standard input
+differential output                              what the program prints for a plan on standard input
+differential plan SEED                           the file made from a seed
+A file that shows a difference is saved in FOLDER.";
+
+fn main() -> ExitCode {
+    let words: Vec<String> = std::env::args().skip(1).collect();
+    let words: Vec<&str> = words.iter().map(String::as_str).collect();
+    let done = match words[..] {
+        ["check", first, count, folder] => check_seeds(seeds(first, count), Path::new(folder)),
+        ["compare", planner, first, count, folder] => compare(planner, seeds(first, count), Path::new(folder)),
+        ["stored", corpus, folder] => check_corpus(Path::new(corpus), Path::new(folder)),
+        ["corpus", folder] => write_corpus(Path::new(folder)),
+        ["answers"] => print(corpus::answers(&input()).ok_or("the stream is malformed".to_string())),
+        ["output"] => print(Ok(output(&input()))),
+        ["plan", seed] => print(Ok(generate(number(seed)).bytes)),
+        _ => Err(USE.to_string()),
+    };
+    match done {
+        Ok(()) => ExitCode::SUCCESS,
+        Err(said) => {
+            eprintln!("{said}");
+            ExitCode::FAILURE
+        }
+    }
+}
+
+fn number(text: &str) -> u64 {
+    text.parse().unwrap_or_else(|_| panic!("{text} isn't a number"))
+}
+
+fn seeds(first: &str, count: &str) -> std::ops::Range<u64> {
+    number(first)..number(first) + number(count)
+}
+
+fn input() -> Vec<u8> {
+    let mut bytes = Vec::new();
+    std::io::stdin().read_to_end(&mut bytes).expect("standard input");
+    bytes
+}
+
+fn print(bytes: Result<Vec<u8>, String>) -> Result<(), String> {
+    std::io::stdout().write_all(&bytes?).map_err(|error| error.to_string())
+}
+
+// Saves a file that shows a difference.
+fn found(file: &Generated, folder: &Path, said: String) -> Result<(), String> {
+    let name: String = file.name.chars().map(|c| if c.is_ascii_alphanumeric() { c } else { '-' }).collect();
+    let path = folder.join(name + ".plan");
+    std::fs::write(&path, &file.bytes).map_err(|error| error.to_string())?;
+    Err(format!("{} ({}): {said}\nplan saved in {}", file.name, file.kind, path.display()))
+}
+
+// Seeds of which everything in the tally must have turned up.
+const MANY: u64 = 2_000;
+
+fn check_seeds(seeds: std::ops::Range<u64>, folder: &Path) -> Result<(), String> {
+    let many = seeds.end - seeds.start >= MANY;
+    check_files(fixed().into_iter().chain(seeds.map(generate)), many, folder)
+}
+
+// The check of each file and the tally; with `all`, everything in it must have turned up.
+fn check_files(files: impl Iterator<Item = Generated>, all: bool, folder: &Path) -> Result<(), String> {
+    let mut tally = Tally::default();
+    for file in files {
+        let checked = catch_unwind(AssertUnwindSafe(|| check(&file, &mut tally)));
+        if let Err(said) = checked.unwrap_or(Err("the scheduler panicked".to_string())) {
+            return found(&file, folder, said);
+        }
+    }
+    println!("{tally}");
+    let missing = tally.missing();
+    if all && !missing.is_empty() {
+        return Err(format!("never turned up: {}", missing.join(", ")));
+    }
+    Ok(())
+}
+
+// The stored corpus: the scheduler's answers are those stored, and its plans pass the check.
+fn check_corpus(corpus: &Path, folder: &Path) -> Result<(), String> {
+    let file = |name| std::fs::read(corpus.join(name)).map_err(|error| format!("corpus {name}: {error}"));
+    let (plans, expected) = (file("plans")?, file("expected")?);
+    let answers = corpus::answers(&plans).ok_or("the stream is malformed")?;
+    if answers != expected {
+        return Err(format!("answers to the corpus, {}", difference(("stored", &expected), ("scheduler", &answers))));
+    }
+    check_files(corpus::stored(&plans).unwrap().into_iter(), true, folder)
+}
+
+fn compare(planner: &str, seeds: std::ops::Range<u64>, folder: &Path) -> Result<(), String> {
+    let count = seeds.end - seeds.start;
+    let mut compared = 0;
+    for file in fixed().into_iter().chain(seeds.map(generate)) {
+        let own = output(&file.bytes);
+        match run(planner, &file.bytes) {
+            Ok(text) if text == own => compared += 1,
+            Ok(text) => return found(&file, folder, difference(("planner", &text), ("scheduler", &own))),
+            Err(said) => return found(&file, folder, said),
+        }
+    }
+    println!("  planner and scheduler agree on {compared} files, {count} of them from seeds");
+    Ok(())
+}
+
+fn write_corpus(folder: &Path) -> Result<(), String> {
+    let corpus = corpus::write();
+    for (name, bytes) in [("plans", corpus.plans), ("expected", corpus.expected), ("index", corpus.index.into_bytes())]
+    {
+        std::fs::write(folder.join(name), bytes).map_err(|error| error.to_string())?;
+    }
+    Ok(())
+}

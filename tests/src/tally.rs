@@ -1,0 +1,96 @@
+// What turned up in the plans.
+
+use std::collections::BTreeMap;
+use std::fmt;
+
+#[derive(Default)]
+pub struct Tally {
+    pub kinds: BTreeMap<&'static str, u64>,
+    pub numbers: BTreeMap<u32, u64>,
+    pub letters: BTreeMap<char, u64>,
+    pub sets: BTreeMap<String, u64>,
+    pub sizes: BTreeMap<usize, u64>,
+    pub accepted: u64,
+    pub placed: u64,
+    pub refused: u64,
+    pub ties: u64,
+    pub at_first: u64,
+    pub at_last: u64,
+    pub starts: u64,
+}
+
+impl Tally {
+    pub fn kind(&mut self, kind: &'static str) {
+        *self.kinds.entry(kind).or_default() += 1;
+    }
+
+    pub fn number(&mut self, number: u32) {
+        *self.numbers.entry(number).or_default() += 1;
+    }
+
+    pub fn placed(&mut self, start: i64, last: i64, tie: bool) {
+        self.placed += 1;
+        self.ties += tie as u64;
+        self.at_first += (start == 0) as u64;
+        self.at_last += (start == last) as u64;
+    }
+
+    pub fn refused(&mut self, letters: &str) {
+        self.refused += 1;
+        *self.sets.entry(letters.to_string()).or_default() += 1;
+        *self.sizes.entry(letters.len()).or_default() += 1;
+        for letter in letters.chars() {
+            *self.letters.entry(letter).or_default() += 1;
+        }
+    }
+
+    // What never turned up although it must.
+    pub fn missing(&self) -> Vec<String> {
+        let mut missing = Vec::new();
+        for number in 1..=12 {
+            if !self.numbers.contains_key(&number) {
+                missing.push(format!("refusal {number}"));
+            }
+        }
+        for letter in crate::conditions::LETTERS.chars() {
+            if !self.letters.contains_key(&letter) {
+                missing.push(format!("letter {letter}"));
+            }
+        }
+        for size in 1..=7 {
+            if !self.sizes.contains_key(&size) {
+                missing.push(format!("{size} letters"));
+            }
+        }
+        for (what, count) in [("tie", self.ties), ("start 0", self.at_first), ("start T-d", self.at_last)] {
+            if count == 0 {
+                missing.push(what.to_string());
+            }
+        }
+        missing
+    }
+}
+
+fn row<K: fmt::Display, N: fmt::Display>(counts: &BTreeMap<K, N>) -> String {
+    counts.iter().map(|(key, count)| format!("{key} {count}")).collect::<Vec<_>>().join(", ")
+}
+
+impl fmt::Display for Tally {
+    fn fmt(&self, out: &mut fmt::Formatter) -> fmt::Result {
+        writeln!(out, "  files        {}: {}", self.kinds.values().sum::<u64>(), row(&self.kinds))?;
+        writeln!(out, "  accepted     {}", self.accepted)?;
+        let (files, calls) = self.numbers.iter().partition(|&(&number, _)| number < 10);
+        writeln!(out, "  no, files    {}", row::<&u32, &u64>(&files))?;
+        writeln!(out, "  no, calls    {}", row::<&u32, &u64>(&calls))?;
+        writeln!(
+            out,
+            "  placed       {} ({} at start 0, {} at T-d, {} of two equally near)",
+            self.placed, self.at_first, self.at_last, self.ties
+        )?;
+        writeln!(out, "  refused      {}", self.refused)?;
+        writeln!(out, "  by letter    {}", row(&self.letters))?;
+        writeln!(out, "  by size      {}", row(&self.sizes))?;
+        writeln!(out, "  letter sets  {} different", self.sets.len())?;
+        write!(out, "  starts       {} lists of runs", self.starts)
+    }
+}
