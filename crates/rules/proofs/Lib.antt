@@ -39,6 +39,7 @@ pub mod Accepted
 pub mod Acceptance
 pub mod ReportLines
 pub mod Demand
+pub mod Ordered
 pub mod Inputs
 pub mod Edges
 pub mod RefusalTable
