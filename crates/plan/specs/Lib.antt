@@ -1,1 +1,5 @@
 pub mod View
+pub mod Reading
+pub mod Cursor
+pub mod Collected
+pub mod LinesView

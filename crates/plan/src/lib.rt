@@ -1,4 +1,29 @@
-// A plan as the planner holds it: what its file says, in the scheduling order (document 01, The plan file).
+// A plan as the planner holds it, and its reading: what the file says, in the scheduling order, or its one refusal
+// (document 01, The plan file; When the planner says no).
+ghost use mathlib.Core.Path.{_≡_};
+ghost use Prim.Native.Nat.{ℕ, _≤_, _<_};
+ghost use lib.ListN.{getD};
+ghost use Rattle.rules.specs.Reading.{reading};
+ghost use Rattle.plan.specs.View.{Sized, noStruct};
+ghost use Rattle.plan.specs.Reading.{inOrder, readingView};
+
+mod activity_line;
+mod after;
+mod fields;
+mod file;
+mod first_line;
+mod ids;
+mod judge;
+mod order;
+mod reach;
+
+use file::formed;
+use file::read_activities;
+use first_line::read_header;
+use judge::judge;
+use judge::refusal;
+use text::field::find;
+use text::word::PLAN;
 
 // The first line's numbers.
 pub struct Header {
@@ -48,6 +73,34 @@ pub struct Plan {
     pub activities: [Activity; 64],
 }
 
-pub fn horizon_of(p: Plan) -> u32 {
-    p.header.horizon
+// What a file says: its plan where the number is 0, else the number and the line of its refusal.
+pub struct Reading {
+    pub number: u32,
+    pub line: u32,
+    pub plan: Plan,
+}
+
+// What the plan file s says.
+pub fn read(s: &[u8]) -> Reading
+    ensures { λ r. ⌜ readingView r ≡ inOrder (reading (now (s .entry))) ⌝ }
+    ensures { λ r. ⌜ (r .plan .count ≤ 64) × ((k : ℕ) → k < r .plan .count → Sized (getD (r .plan .activities) k noStruct)) ⌝ }
+{
+    if 60000 < s.len() {
+        return refusal(1, 0);
+    }
+    let end = find(s, 0, b'\n');
+    if end == s.len() {
+        return refusal(2, 1);
+    }
+    let l = &s[0..end];
+    if !formed(l, &PLAN, 12) {
+        return refusal(2, 1);
+    }
+    let first = read_header(l);
+    let fault = first.fault;
+    if fault != 0 {
+        return refusal(fault, 1);
+    }
+    let header = first.header;
+    judge(header, read_activities(s, end + 1, header))
 }

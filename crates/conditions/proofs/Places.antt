@@ -1,0 +1,36 @@
+-- What the code's schedule and its view have to do with each other, place by place.
+-- Assumes nothing.
+use Prim.Native.Nat.{ℕ, _+_, _<_, _≤_}
+use mathlib.Core.Path.{_≡_}
+use native.Mathlib.Omega.{arith}
+use Rattle.rules.specs.Outcomes.{starts}
+use Rattle.rules.specs.WellFormed.{HeaderFormed, ActivityFormed}
+use Rattle.plan.specs.View.{Sized, headerView, activityView}
+use Rattle.plan.specs.declared.Header.{Header as HeaderStruct}
+use Rattle.plan.specs.declared.Activity.{Activity as ActivityStruct}
+use Rattle.conditions.specs.declared.Schedule.{Schedule as ScheduleStruct}
+use Rattle.conditions.specs.View.{scheduleView}
+use Rattle.conditions.specs.Ready.{Ready, Bounded}
+use Rattle.conditions.proofs.StateEntries.{entryAt, entry-in}
+
+-- what is ready is bounded
+pub bounded : (h : HeaderStruct) (s : ScheduleStruct) (a : ActivityStruct) → Ready h s a → Bounded s
+unfolding scheduleView activityView
+bounded h s a r = record {
+  few = r .few;
+  ends = λ i k. omega (arith, r .reached .inTime (entryAt (s .activities) (s .starts) i) (entry-in (s .activities) (s .starts) (s .count) i k), r .reached .header .horizon .1);
+  sizes = r .sizes;
+}
+
+-- a candidate's ticks are ticks of the plan, of which there are at most 4,096
+pub starts-end : (h : HeaderStruct) (a : ActivityStruct) (s : ℕ) → ActivityFormed (headerView h) (activityView a) → s < starts (headerView h) (activityView a) → s + a .duration ≤ h .horizon
+unfolding starts headerView activityView
+starts-end h a s f k = omega (arith, f .duration .1)
+
+pub starts-few : (h : HeaderStruct) (a : ActivityStruct) → HeaderFormed (headerView h) → ActivityFormed (headerView h) (activityView a) → (1 ≤ a .duration) × (starts (headerView h) (activityView a) + a .duration ≤ 4097)
+unfolding starts headerView activityView
+starts-few h a g f = (f .duration .0, omega (arith, f .duration .1, g .horizon .1))
+
+-- what the tests of U, E and P ask
+pub load-ready : (h : HeaderStruct) (s : ScheduleStruct) (a : ActivityStruct) (count : ℕ) → Ready h s a → count ≡ starts (headerView h) (activityView a) → Bounded s × Sized a × (1 ≤ a .duration) × (count + a .duration ≤ 4097)
+load-ready h s a count r e = let few = starts-few h a (r .reached .header) (r .candidate) in (bounded h s a r, r .sized, few .0, omega (arith, few .1))

@@ -1,0 +1,15 @@
+-- `warmed` meets its contract.
+-- Assumes nothing.
+use borrow.Author.Needs.{needs}
+use borrow.Author.Needs.{needs}
+use Rattle.conditions.proofs.warmup.warmed.Statement.{statement}
+use Rattle.conditions.proofs.warmup.warmed.Tie as tie
+
+warmup-at-requires : tie.Need-warmup-at-requires
+warmup-at-requires c κs = search needs
+
+returns : tie.Need-returns
+returns c = cc
+
+pub warmed-spec : {M : Type 1} → statement M
+warmed-spec = tie.close (tie.spec warmup-at-requires returns)

@@ -1,0 +1,10 @@
+pub mod Unless
+pub mod Lists
+pub mod Fronts
+pub mod Column
+pub mod Ordering
+pub mod Charge
+pub mod Places
+pub mod Cutting
+pub mod Lining
+pub mod Judging

@@ -1,0 +1,98 @@
+-- Laws of the activity lines: what one more line makes of them.
+-- Assumes nothing.
+use Prim.Native.Nat.{ℕ, zero, suc, _+_, _≤_, _<_}
+use mathlib.Core.Path.{_≡_, refl, sym, ap, _∙_}
+use mathlib.Core.Bool.{Bool, true, false, cond, not, _&&_}
+use mathlib.Core.List.{List, [], _∷_, _++_, map}
+use native.Mathlib.Nat.{add-suc}
+use native.Mathlib.Omega.{arith}
+use lib.Dec.{eqb, leb}
+use lib.ListN.{length, getD, take, length-map}
+use lib.Seq.{length-take-le}
+use borrow.Author.Tests.{le-leb, lt-leb, eq-eqb, ne-eqb}
+use Rattle.rules.specs.Bytes.{bytes, same}
+use Rattle.rules.specs.Tests.{anyOf}
+use Rattle.rules.specs.Lines.{splitOn, ended, fields}
+use Rattle.rules.specs.Fields.{Read, value, fault}
+use Rattle.rules.specs.Plan.{Header, Activity}
+use Rattle.rules.specs.ActivityLine.{activityOf}
+use Rattle.rules.specs.Reading.{Reading, accepted, no, formed, onLine, hasId, activityLines}
+use Rattle.plan.specs.View.{activityView}
+use Rattle.plan.specs.Collected.{isId}
+use Rattle.plan.specs.LinesView.{isFormed, Collected, activitiesView, linesView, linesFrom}
+use Rattle.plan.specs.declared.Activity.{Activity as ActivityStruct}
+use Rattle.plan.specs.declared.file.Lines.{Lines}
+use Rattle.plan.proofs.Fronts.{map-append}
+use Rattle.plan.proofs.Column.{has-ids}
+
+-- a line's form, by its fields
+pub form-is : (word : List ℕ) (count : ℕ) (line l : List ℕ) → ended line ≡ true → fields line ≡ splitOn 9 l → formed word count line ≡ isFormed word count l
+unfolding formed isFormed
+form-is word count line l e f = rw (e, f)
+
+-- one more line
+module _ (h : Header) (earlier : List Activity) (n : ℕ) (line : List ℕ) (rest : List (List ℕ)) where
+  pub line-2 : formed (bytes "act") 15 line ≡ false → activityLines h earlier n (line ∷ rest) ≡ no 2 n
+  unfolding activityLines
+  line-2 e = rw e
+
+  module _ (e : formed (bytes "act") 15 line ≡ true) where
+    pub line-5 : 64 ≤ length earlier → activityLines h earlier n (line ∷ rest) ≡ no 5 n
+    unfolding activityLines
+    line-5 k = rw (e, le-leb _ _ k)
+
+    module _ (k : length earlier < 64) where
+      pub line-fault : (x : ℕ) → activityOf h (fields line) ≡ fault x → activityLines h earlier n (line ∷ rest) ≡ no x n
+      unfolding activityLines onLine
+      line-fault x f = rw (e, lt-leb _ _ k, f)
+
+      module _ (a : Activity) (f : activityOf h (fields line) ≡ value a) where
+        pub line-6 : hasId (a .id) earlier ≡ true → activityLines h earlier n (line ∷ rest) ≡ no 6 n
+        unfolding activityLines onLine
+        line-6 g = rw (e, lt-leb _ _ k, f, g)
+
+        pub line-on : hasId (a .id) earlier ≡ false → activityLines h earlier n (line ∷ rest) ≡ activityLines h (earlier ++ (a ∷ [])) (suc n) rest
+        unfolding activityLines onLine
+        line-on g = rw (e, lt-leb _ _ k, f, g)
+
+pub counted : (t : Lines) → Collected t → length (activitiesView t) ≡ t .count
+counted t g =
+    let m : t .count ≤ length (t .activities) = omega (arith, g .small, g .long) in
+    length-map (take (t .count) (t .activities)) activityView ∙ length-take-le (t .count) (t .activities) m
+
+-- the code's next state, where the line is refused and where it is an activity
+module _ (h : Header) (t r : Lines) (line : List ℕ) (rest : List (List ℕ)) (z : t .number ≡ 0) where
+  pub from-refused : (k : ℕ) → (k ≡ 0 → ⊥) → r .number ≡ k → r .line ≡ t .count + 2 → activityLines h (activitiesView t) (t .count + 2) (line ∷ rest) ≡ no k (t .count + 2) → linesFrom h t (line ∷ rest) ≡ linesFrom h r rest
+  unfolding linesFrom
+  from-refused k x e f g = rw (eq-eqb _ _ z, e, ne-eqb _ _ x, f) g
+
+  pub from-pushed : (v : Activity) → r .number ≡ t .number → r .count ≡ t .count + 1 → activitiesView r ≡ activitiesView t ++ (v ∷ []) → activityLines h (activitiesView t) (t .count + 2) (line ∷ rest) ≡ activityLines h (activitiesView t ++ (v ∷ [])) (suc (t .count + 2)) rest → linesFrom h t (line ∷ rest) ≡ linesFrom h r rest
+  unfolding linesFrom
+  from-pushed v e f g q =
+      let n : suc (t .count + 2) ≡ r .count + 2 = omega arith in
+      rw (eq-eqb _ _ z, eq-eqb _ _ (e ∙ z)) (q ∙ rw (n, g))
+
+pub pushed-view : (t r : Lines) (a : ActivityStruct) → take (r .count) (r .activities) ≡ take (t .count) (t .activities) ++ (a ∷ []) → activitiesView r ≡ activitiesView t ++ (activityView a ∷ [])
+pushed-view t r a e = rw e (map-append activityView (take (t .count) (t .activities)) (a ∷ []))
+
+-- no more lines, and those refused
+pub from-done : (h : Header) (t : Lines) → linesFrom h t [] ≡ linesView h t
+unfolding linesFrom linesView activityLines
+from-done h t = refl
+
+pub from-stopped : (h : Header) (t : Lines) (rest : List (List ℕ)) → (t .number ≡ 0 → ⊥) → linesFrom h t rest ≡ linesView h t
+unfolding linesFrom linesView
+from-stopped h t rest x = rw (ne-eqb _ _ x)
+
+pub from-none : (h : Header) (t : Lines) (rest : List (List ℕ)) → t .number ≡ 0 → t .count ≡ 0 → linesFrom h t rest ≡ activityLines h [] 2 rest
+unfolding linesFrom
+from-none h t rest z n = rw (eq-eqb _ _ z, n)
+
+-- a line that lacks its LF
+pub form-not : (word : List ℕ) (count : ℕ) (line : List ℕ) → ended line ≡ false → formed word count line ≡ false
+unfolding formed
+form-not word count line e = rw e
+
+-- the id of an earlier line
+pub has-collected : (t : Lines) → Collected t → (id : ℕ) → hasId id (activitiesView t) ≡ anyOf (isId id) (take (t .count) (t .ids))
+has-collected t g id = rw (g .their-ids) (has-ids id (take (t .count) (t .activities)))

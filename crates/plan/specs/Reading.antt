@@ -1,0 +1,16 @@
+-- What the reader answers: the definition's reading, with the activities by place.
+use mathlib.Core.Bool.{cond}
+use lib.Dec.{eqb}
+use Rattle.rules.specs.Order.{order}
+use Rattle.rules.specs.Reading.{Reading, accepted, refused, no}
+use Rattle.plan.specs.View.{planView}
+use Rattle.plan.specs.declared.Reading.{Reading as ReadingStruct}
+
+-- a plan with its activities in the scheduling order
+unfoldable pub inOrder : Reading → Reading
+inOrder (accepted p) = accepted (record { header = p .header; activities = order (p .activities) })
+inOrder (refused r) = refused r
+
+-- what the struct says: its plan, or its refusal
+unfoldable pub readingView : ReadingStruct → Reading
+readingView r = cond (eqb (r .number) 0) (accepted (planView (r .plan))) (no (r .number) (r .line))
