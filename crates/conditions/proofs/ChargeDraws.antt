@@ -2,19 +2,18 @@
 -- Assumes nothing.
 use Prim.Native.Nat.{ℕ, zero, suc, _+_, _-_, _*_, _≤_, _<_}
 use mathlib.Core.Path.{_≡_, refl, sym, ap, _∙_, subst}
-use mathlib.Core.Logic.{⊎-elim, _≢_}
+use mathlib.Core.Logic.{_≢_}
 use mathlib.Core.Bool.{Bool, true, false, cond, _&&_}
 use mathlib.Core.List.{List, [], _∷_, List·Memᴰ, List·Memᴰ·head, List·Memᴰ·tail}
 use native.Mathlib.Decide.{ℕ-discrete}
-use native.Mathlib.Numerals.{add-one}
 use native.Mathlib.Omega.{arith}
 use lib.Dec.{leb, ltb}
 use lib.IntN.{pos, _+ℤ_, _-ℤ_}
 use lib.Signed.{leZ}
 use lib.ListN.{length, getD, set, replicate, length-set}
 use lib.Seq.{getD-set-same, getD-set-other}
-use borrow.Author.Tests.{leb-true, leb-false, ltb-true, ltb-false, le-leb, lt-leb, lt-ltb, le-ltb}
-use Rattle.rules.specs.Plan.{Header, Activity, Entry, Schedule, at, end}
+use borrow.Author.Tests.{leb-true, ltb-true, ltb-false, le-leb, lt-leb, lt-ltb, le-ltb}
+use Rattle.rules.specs.Plan.{Header, Entry, Schedule, at, end}
 use Rattle.rules.specs.Tests.{each, total}
 use Rattle.rules.specs.Hold.{holds}
 use Rattle.rules.specs.Warmup.{warmup, warmupAt}
@@ -29,7 +28,7 @@ use Rattle.conditions.specs.View.{entriesView, scheduleView}
 use Rattle.conditions.specs.Ready.{Reached}
 use Rattle.conditions.specs.declared.charge.OwnDraw.{OwnDraw}
 use Rattle.conditions.specs.Charge.{ownDraw, drawOf, drawWith, chargeNext, chargeBy, keptBy, keptAt, RaisedBetween}
-use Rattle.conditions.proofs.StateEntries.{entryAt, entries-none, entries-more, entries-count, entry-all, formed-at, in-time}
+use Rattle.conditions.proofs.StateEntries.{entries-none, entries-more, entries-count, entry-all, formed-at, in-time}
 
 cond-most : (b : Bool) (x y : ℕ) → x ≤ y → cond b x 0 ≤ y
 cond-most true x y h = h
@@ -96,9 +95,6 @@ pub own-is : (h : HeaderStruct) (a : ActivityStruct) (s t : ℕ) → drawOf (own
 unfolding drawOf holds heats warmup headerView activityView
 own-is h a s t = go (ltb t s) refl
   where
-    w : ℕ
-    w = warmupAt (h .minute) s (a .warm)
-
     go : (b : Bool) → ltb t s ≡ b → cond b (cond (leb (s - warmupAt (h .minute) s (a .warm)) t) (h .heater) 0) (cond (ltb t (s + a .duration)) (a .draw) 0) ≡ cond (leb s t && ltb t (s + a .duration)) (a .draw) 0 + cond (b && leb s (t + warmupAt (h .minute) s (a .warm))) (h .heater) 0
     go true e = rw (lt-leb s t (ltb-true _ _ e), heats-from s t (warmupAt (h .minute) s (a .warm))) (omega arith)
     go false e = rw (le-leb s t (ltb-false _ _ e)) (omega arith)

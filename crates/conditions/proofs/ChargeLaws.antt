@@ -4,7 +4,7 @@ use Prim.Native.Nat.{ℕ, zero, suc, _+_, _-_, _*_, _≤_, _<_, _^_, min}
 use mathlib.Core.Path.{_≡_, refl, sym, ap, _∙_, subst}
 use mathlib.Core.Logic.{⊎-elim}
 use mathlib.Core.Bool.{Bool, true, false, cond, _&&_}
-use mathlib.Core.List.{List, [], _∷_, List·Memᴰ, List·Memᴰ·head, List·Memᴰ·tail}
+use mathlib.Core.List.{List}
 use native.Mathlib.Nat.{eq-or-lt-of-le}
 use native.Mathlib.Numerals.{add-one}
 use native.Mathlib.Omega.{arith}
@@ -14,7 +14,7 @@ use lib.ListN.{length, getD, set, length-set}
 use lib.Seq.{getD-set-same, getD-set-other}
 use lib.Signed.{leZ, mag}
 use mir.Syntax.{w64}
-use mir.Val.{SFits, toZ, ofZ}
+use mir.Val.{toZ, ofZ}
 use mir.Facts.{toZ-pos, toZ-ofZ}
 use Rattle.rules.specs.Tests.{each}
 use Rattle.rules.specs.MeetsB.{smaller}
@@ -22,7 +22,7 @@ use Rattle.rules.proofs.Tests.{each-all}
 use Rattle.rules.proofs.Signed.{above, under, cond-by, add-parts, less-parts, le-yes, le-no}
 use Rattle.plan.specs.declared.Header.{Header as HeaderStruct}
 use Rattle.conditions.specs.declared.charge.OwnDraw.{OwnDraw}
-use Rattle.conditions.specs.Charge.{drawOf, drawWith, chargeNext, chargeBy, keptBy, Drawing, FilledBy}
+use Rattle.conditions.specs.Charge.{drawOf, drawWith, chargeNext, chargeBy, keptBy, FilledBy}
 
 -- ---- signed numbers
 -- one of the two parts is 0

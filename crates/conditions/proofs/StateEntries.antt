@@ -6,7 +6,7 @@ use mathlib.Core.List.{List, [], _∷_, List·Memᴰ, List·Memᴰ·head, List·
 use native.Mathlib.Numerals.{add-one}
 use native.Mathlib.Omega.{arith}
 use lib.ListN.{length, getD}
-use Rattle.rules.specs.Plan.{Header, Entry, Schedule, at, end}
+use Rattle.rules.specs.Plan.{Header, Entry, at, end}
 use Rattle.rules.specs.WellFormed.{ActivityFormed}
 use Rattle.rules.proofs.Tests.{last-or}
 use Rattle.plan.specs.View.{noStruct, activityView}

@@ -1,20 +1,20 @@
 -- Laws of condition S with a candidate added: its own needs are those beside the placed, and its sets spoil a placed need exactly when they take effect in a range of ticks.
 -- Assumes nothing.
-use Prim.Native.Nat.{ℕ, zero, suc, _+_, _-_, _≤_, _<_, max}
-use mathlib.Core.Path.{_≡_, refl, sym, ap, _∙_, subst}
+use Prim.Native.Nat.{ℕ, _+_, _-_, _≤_, _<_, max}
+use mathlib.Core.Path.{_≡_, refl, ap, _∙_, subst}
 use mathlib.Core.Logic.{_⊎_, inl, inr}
 use mathlib.Core.Bool.{Bool, true, false, cond, _&&_}
-use mathlib.Core.List.{List, [], _∷_}
+use mathlib.Core.List.{[], _∷_}
 use mathlib.Core.Option.{Option, none, some}
 use native.Mathlib.Decide.{decLe}
 use native.Mathlib.Omega.{arith}
-use lib.Dec.{leb, ltb, eqb}
+use lib.Dec.{leb, eqb}
 use borrow.Author.Tests.{leb-true, leb-false, le-leb, lt-leb, eq-eqb, ne-eqb, eqb-true, eqb-false}
 use Rattle.rules.specs.Plan.{Setting, Entry, Schedule, end}
 use Rattle.rules.specs.Tests.{each}
 use Rattle.rules.specs.Hold.{holds}
 use Rattle.rules.specs.MeetsS.{Standing, given, over, standing, met}
-use Rattle.rules.proofs.Tests.{each-at, each-all, and-both}
+use Rattle.rules.proofs.Tests.{each-at, each-all}
 use Rattle.rules.proofs.Local.{holds-of, holds-from, holds-till}
 use Rattle.conditions.specs.State.{codeOf, never, spoilFrom}
 
@@ -132,9 +132,6 @@ module _ (placed : Schedule) (c p : Entry) (n : Setting) (kept : (t : ℕ) → h
   unfolding spoilFrom
   spoils-at h m l k = go (given (c .activity .sets) (n .variable)) refl l
     where
-      t : ℕ
-      t = max (p .start) (end c)
-
       stands : standing placed (n .variable) (p .start) .since ≤ end c → standing placed (n .variable) (max (p .start) (end c)) .since ≤ end c
       stands a = by (decLe (p .start) (end c))
         where

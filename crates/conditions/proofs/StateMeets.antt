@@ -4,14 +4,14 @@ use Prim.Native.Nat.{ℕ, zero, suc, _+_, _-_, _*_, _≤_, _<_}
 use mathlib.Core.Path.{_≡_, refl, sym, ap, _∙_, subst}
 use mathlib.Core.Logic.{_⊎_, inl, inr}
 use mathlib.Core.Bool.{Bool, true, false, cond, _&&_, not}
-use mathlib.Core.List.{List, [], _∷_, List·Memᴰ}
+use mathlib.Core.List.{List, _∷_, List·Memᴰ}
 use mathlib.Core.Option.{Option, none, some}
 use native.Mathlib.Decide.{decLe}
 use native.Mathlib.Omega.{arith}
 use lib.Dec.{leb, ltb, eqb}
 use lib.ListN.{length, getD}
-use borrow.Author.Tests.{leb-true, leb-false, ltb-true, ltb-false, le-leb, lt-leb, lt-ltb, le-ltb, not-true}
-use Rattle.rules.specs.Plan.{Header, Setting, Activity, Entry, Schedule, at, end}
+use borrow.Author.Tests.{leb-true, leb-false, ltb-true, ltb-false, le-leb, lt-ltb, le-ltb, not-true}
+use Rattle.rules.specs.Plan.{Setting, Entry, Schedule, at, end}
 use Rattle.rules.specs.Tests.{each, every}
 use Rattle.rules.specs.Hold.{holds}
 use Rattle.rules.specs.MeetsS.{Standing, given, over, standing, met, needsKept, meetsS}
@@ -24,11 +24,10 @@ use Rattle.plan.specs.declared.Activity.{Activity as ActivityStruct}
 use Rattle.conditions.specs.declared.Schedule.{Schedule as ScheduleStruct}
 use Rattle.conditions.specs.declared.state.StandingValue.{StandingValue}
 use Rattle.conditions.specs.View.{entriesView, scheduleView}
-use Rattle.conditions.specs.Ready.{Reached, Ready}
+use Rattle.conditions.specs.Ready.{Ready}
 use Rattle.conditions.specs.State.{noSetting, codeOf, setCode, laterValue, standingBy, changeAt, unmetAt, ownMet, never, spoilFrom, spoiltBy, needAt, spoilNeed, placedMet, stateMet, PlacedFormed, EndsRight, SetsRight, SpoilsRight}
-use Rattle.conditions.proofs.StateEntries.{entryAt, entries-none, entries-more, entry-in, entry-all, formed-at, in-time}
+use Rattle.conditions.proofs.StateEntries.{entryAt, entry-in, entry-all, formed-at, in-time}
 use Rattle.conditions.proofs.StateSettings.{element-in, every-number, needs-count, need-is, need-small}
-use Rattle.conditions.proofs.StateColumns.{stands-none, stands-more}
 use Rattle.conditions.proofs.StateLaws.{met-before, spoils-not, spoils-at, held-all, held-at}
 
 -- ---- the value that stands

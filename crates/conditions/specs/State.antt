@@ -1,7 +1,7 @@
 -- What the test of S works on: sets as numbers, the value that stands by columns, and the effect ticks that spoil a need.
 use Prim.Native.Nat.{ℕ, zero, suc, _+_, _*_, _<_, _≤_}
 use mathlib.Core.Path.{_≡_}
-use mathlib.Core.Bool.{Bool, cond, _&&_, _||_, not}
+use mathlib.Core.Bool.{Bool, cond, _&&_, not}
 use mathlib.Core.List.{List}
 use mathlib.Core.Option.{Option, none, some}
 use lib.Dec.{leb, ltb, eqb}

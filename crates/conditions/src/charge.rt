@@ -73,6 +73,7 @@ fn draw_with(draws: &[u32], own: OwnDraw, t: usize) -> u64
     wide(draws[t]) + more
 }
 
+// The same number in 64 bits.
 fn wide(x: u32) -> u64
     ensures { λ r. ⌜ r ≡ x ⌝ }
 {
@@ -140,7 +141,7 @@ fn add_draw(draws: &mut [u32], own: OwnDraw)
     raise(draws, own.start, own.end, own.draw);
 }
 
-// Adds the draws of the placed to none.
+// Writes the draws of the placed in each tick over zeros.
 fn add_placed(header: Header, schedule: Schedule, draws: &mut [u32])
     requires { ⌜ Reached (headerView header) (scheduleView schedule) × (schedule .count ≤ 64) × (length (now draws) ≡ 4096) ⌝ }
     requires { ⌜ ((t : ℕ) → getD (now draws) t 0 ≡ 0) ⌝ }

@@ -129,7 +129,7 @@ pub fn mark_units(
     mark_load(
         schedule,
         candidate,
-        Quantity::Engines,
+        Quantity::Shared,
         0,
         0,
         count,

@@ -1,15 +1,14 @@
 // Condition S: the needs of the candidate and of the placed, with the candidate's sets added, for each start.
 ghost use mathlib.Core.Path.{_≡_};
-ghost use mathlib.Core.Bool.{cond};
 ghost use Prim.Native.Nat.{ℕ, _+_, _-_, _*_, _<_, _≤_};
 ghost use lib.ListN.{length, getD};
 ghost use Rattle.rules.specs.WellFormed.{SettingsFormed};
 ghost use Rattle.plan.specs.View.{headerView, activityView};
 ghost use Rattle.conditions.specs.View.{scheduleView};
-ghost use Rattle.conditions.specs.Ready.{Reached, Ready};
+ghost use Rattle.conditions.specs.Ready.{Ready};
 ghost use Rattle.conditions.specs.Marked.{Marked};
 ghost use Rattle.rules.specs.MeetsS.{meetsS};
-ghost use Rattle.conditions.specs.State.{setCode, laterValue, standingBy, changeAt, unmetAt, ownMet, never, spoilFrom, spoilNeed, spoiltBy, placedMet, stateMet, RowSet, PlacedFormed, EndsRight, SetsRight, SpoilsRight};
+ghost use Rattle.conditions.specs.State.{setCode, laterValue, standingBy, changeAt, unmetAt, ownMet, spoilFrom, spoilNeed, spoiltBy, placedMet, stateMet, RowSet, PlacedFormed, EndsRight, SetsRight, SpoilsRight};
 use super::Schedule;
 use super::charge::mark_if;
 use plan::Activity;
@@ -38,13 +37,13 @@ fn set_code(activity: Activity, variable: u32) -> u32
 }
 
 // The value that stands with one more set, in effect from `end`.
-fn later(end: u32, code: u32, t: u32, before: StandingValue) -> StandingValue
-    ensures { λ r. ⌜ r ≡ laterValue end code t before ⌝ }
+fn later(end: u32, code: u32, tick: u32, before: StandingValue) -> StandingValue
+    ensures { λ r. ⌜ r ≡ laterValue end code tick before ⌝ }
 {
     if code == 0 {
         return before;
     }
-    if end <= t {
+    if end <= tick {
         if before.since <= end {
             return StandingValue {
                 since: end,

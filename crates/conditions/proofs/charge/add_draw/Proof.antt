@@ -1,8 +1,6 @@
 -- `add_draw` meets its contract: the heater's ticks are raised, then its own.
 -- Assumes nothing.
-use Prim.Native.Nat.{ℕ, _+_, _<_}
 use native.Mathlib.Omega.{arith}
-use lib.ListN.{getD}
 use Rattle.conditions.proofs.ChargeDraws.{raised-most, raised-own}
 use borrow.Author.Needs.{needs}
 use Rattle.conditions.proofs.charge.add_draw.Statement.{statement}

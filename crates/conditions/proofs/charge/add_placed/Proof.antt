@@ -1,15 +1,13 @@
 -- `add_placed` meets its contract: the draws of the first i are summed.
 -- Assumes nothing.
-use Prim.Native.Nat.{ℕ, _+_, _-_, _*_, _<_, _≤_}
-use mathlib.Core.Path.{_≡_, refl, sym, ap, _∙_}
-use borrow.Author.Needs.{needs}
+use Prim.Native.Nat.{ℕ, _-_, _≤_}
+use mathlib.Core.Path.{_≡_, sym, ap, _∙_}
 use native.Mathlib.Omega.{arith}
 use lib.ListN.{length, getD}
 use Rattle.rules.specs.MeetsB.{drawn}
 use Rattle.plan.specs.View.{headerView}
 use Rattle.conditions.specs.View.{entriesView, scheduleView}
 use Rattle.conditions.specs.declared.charge.OwnDraw.{OwnDraw}
-use Rattle.conditions.specs.Charge.{ownDraw, drawOf}
 use Rattle.conditions.proofs.ChargeDraws.{drawn-none, draws-more, draws-few, own-ends, own-draws}
 use Rattle.conditions.proofs.charge.add_placed.Statement.{statement}
 use Rattle.conditions.proofs.charge.add_placed.Tie as tie

@@ -7,7 +7,7 @@ use Rattle.conditions.proofs.charge.draw_with.Statement.{statement}
 use Rattle.conditions.proofs.charge.draw_with.Tie as tie
 
 draw-in-requires : tie.Need-draw-in-requires
-draw-in-requires c κs = search needs
+draw-in-requires c κs = tt
 
 cast-more : tie.Need-cast-more
 cast-more c = search needs
@@ -19,7 +19,7 @@ shared-slice-read-wide : tie.Need-shared-slice-read-wide
 shared-slice-read-wide c = search needs
 
 wide-requires : tie.Need-wide-requires
-wide-requires c κs = search needs
+wide-requires c κs = tt
 
 add-result : tie.Need-add-result
 add-result c = search needs

@@ -4,19 +4,19 @@ use borrow.Author.Needs.{needs}
 use borrow.Author.Count.{below-more}
 use native.Mathlib.Omega.{arith}
 use native.Mathlib.Nat.{le-refl}
-use mathlib.Core.Path.{_≡_, refl, sym, ap, _∙_, subst}
+use mathlib.Core.Path.{_≡_, refl, sym, ap, _∙_}
 use mathlib.Core.Logic.{⊎-elim}
-use mathlib.Core.Bool.{true, false}
-use Prim.Native.Nat.{ℕ, _+_, _-_, _*_, _<_, _≤_, _^_}
+use mathlib.Core.Bool.{true}
+use Prim.Native.Nat.{ℕ, _+_, _-_, _*_, _<_, _≤_}
 use lib.IntN.{ℤ, pos}
-use lib.ListN.{length, getD, set}
+use lib.ListN.{getD}
 use lib.Signed.{leZ}
 use mir.Syntax.{w64}
 use mir.Val.{toZ, ofZ}
 use mir.Facts.{toZ-ofZ, toZ-pos}
 use Rattle.rules.proofs.Signed.{above, under, signed}
 use Rattle.rules.proofs.Tests.{both-ways}
-use Rattle.conditions.specs.Charge.{drawWith, chargeNext, chargeBy, keptBy, FilledBy}
+use Rattle.conditions.specs.Charge.{drawWith, chargeNext, chargeBy, FilledBy}
 use Rattle.conditions.proofs.ChargeLaws.{read-le, charge-range, draw-few, charge-first, charge-next, fill-first, fill-more, not-kept, kept-last}
 use Rattle.conditions.proofs.charge.keeps_charge.Statement.{statement}
 use Rattle.conditions.proofs.charge.keeps_charge.Tie as tie

@@ -1,11 +1,8 @@
 -- `mark_charge` meets its contract: the draws of the placed are the definition's, so each trial is condition B.
 -- Assumes nothing.
-use Prim.Native.Nat.{ℕ, _+_, _*_, _<_, _≤_}
-use mathlib.Core.Path.{_≡_, refl, sym, ap, _∙_}
+use mathlib.Core.Path.{refl, sym}
 use native.Mathlib.Omega.{arith}
 use native.Mathlib.Nat.{le-refl}
-use lib.ListN.{length, getD}
-use Rattle.rules.specs.MeetsB.{drawn}
 use Rattle.plan.specs.View.{headerView}
 use Rattle.conditions.specs.View.{scheduleView}
 use Rattle.conditions.proofs.StateMarks.{same-marked}
@@ -15,7 +12,7 @@ use Rattle.conditions.proofs.charge.mark_charge.Statement.{statement}
 use Rattle.conditions.proofs.charge.mark_charge.Tie as tie
 
 slice-aggregate-add-placed : tie.Need-slice-aggregate-add-placed
-slice-aggregate-add-placed c = search needs
+slice-aggregate-add-placed c = refl
 
 add-placed-requires : tie.Need-add-placed-requires
 add-placed-requires c κs =
@@ -23,7 +20,7 @@ add-placed-requires c κs =
     ((s .pre .0 .reached, s .pre .0 .few, refl), zeros 4096)
 
 slice-aggregate-mark-trials : tie.Need-slice-aggregate-mark-trials
-slice-aggregate-mark-trials c = search needs
+slice-aggregate-mark-trials c = sym (c .before .before .add-placed .kept .1 .1 .0)
 
 mark-trials-requires : tie.Need-mark-trials-requires
 unfolding headerView scheduleView

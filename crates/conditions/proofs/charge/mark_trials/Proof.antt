@@ -1,9 +1,8 @@
 -- `mark_trials` meets its contract: the starts below s are marked.
 -- Assumes nothing.
-use borrow.Author.Needs.{needs}
 use native.Mathlib.Omega.{arith}
-use Prim.Native.Nat.{ℕ, _+_, _-_, _≤_}
-use mathlib.Core.Path.{_≡_, sym, ap, _∙_}
+use Prim.Native.Nat.{_+_, _-_, _≤_}
+use mathlib.Core.Path.{_≡_, ap, _∙_}
 use mathlib.Core.Bool.{Bool, cond}
 use lib.ListN.{getD}
 use Rattle.conditions.specs.declared.charge.OwnDraw.{OwnDraw}
@@ -38,7 +37,7 @@ slice-read-table : tie.Need-slice-read-table Inv-loop μ-loop
 slice-read-table c = omega (arith, c .before .before .before .before .loop .inv .1 .size)
 
 mark-if-requires : tie.Need-mark-if-requires Inv-loop μ-loop
-mark-if-requires c κs = search needs
+mark-if-requires c κs = tt
 
 add-table : tie.Need-add-table Inv-loop μ-loop
 add-table c =

@@ -5,10 +5,10 @@ use Rattle.conditions.proofs.charge.own_draw.Statement.{statement}
 use Rattle.conditions.proofs.charge.own_draw.Tie as tie
 
 warmup-at-requires : tie.Need-warmup-at-requires
-warmup-at-requires c κs = search needs
+warmup-at-requires c κs = tt
 
 heater-from-requires : tie.Need-heater-from-requires
-heater-from-requires c κs = search needs
+heater-from-requires c κs = tt
 
 cast-t8 : tie.Need-cast-t8
 cast-t8 c = search needs

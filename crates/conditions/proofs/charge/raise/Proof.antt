@@ -1,13 +1,8 @@
 -- `raise` meets its contract: the ticks from `from` to before t are raised.
 -- Assumes nothing.
-use borrow.Author.Needs.{needs}
 use native.Mathlib.Omega.{arith}
-use Prim.Native.Nat.{_+_, _-_, _≤_}
-use mathlib.Core.Path.{_≡_, _∙_}
-use mathlib.Core.Bool.{cond}
-use lib.Dec.{leb, ltb}
-use lib.ListN.{getD}
-use borrow.Author.Tests.{le-ltb}
+use Prim.Native.Nat.{_-_, _≤_}
+use mathlib.Core.Path.{_≡_}
 use Rattle.conditions.specs.Charge.{RaisedBetween}
 use Rattle.conditions.proofs.ChargeDraws.{raised-none, raised-more, raised-yet}
 use Rattle.conditions.proofs.charge.raise.Statement.{statement}

@@ -1,10 +1,9 @@
 -- `fill_needs` meets its contract: the needs below j are written.
 -- Assumes nothing.
-use Prim.Native.Nat.{ℕ, _+_, _-_, _≤_}
+use Prim.Native.Nat.{_-_, _≤_}
 use mathlib.Core.Path.{_≡_}
 use borrow.Author.Needs.{needs}
 use native.Mathlib.Omega.{arith}
-use lib.ListN.{length}
 use Rattle.conditions.specs.State.{spoilNeed, RowSet}
 use Rattle.conditions.proofs.StateColumns.{row-none, row-more}
 use Rattle.conditions.proofs.state.fill_needs.Statement.{statement}

@@ -1,6 +1,6 @@
 -- `mark_needs` meets its contract: the starts below s are marked.
 -- Assumes nothing.
-use Prim.Native.Nat.{ℕ, _+_, _-_, _≤_}
+use Prim.Native.Nat.{_+_, _-_, _≤_}
 use mathlib.Core.Path.{_≡_, ap, _∙_}
 use mathlib.Core.Bool.{Bool, cond}
 use borrow.Author.Needs.{needs}
@@ -41,7 +41,7 @@ slice-read-table : tie.Need-slice-read-table Inv-loop μ-loop
 slice-read-table c = omega (arith, c .before .before .before .loop .inv .1 .size, start (c .before .before .before) .pre .1 .1 .0)
 
 mark-if-requires : tie.Need-mark-if-requires Inv-loop μ-loop
-mark-if-requires c κs = search needs
+mark-if-requires c κs = tt
 
 add-table : tie.Need-add-table Inv-loop μ-loop
 add-table c =

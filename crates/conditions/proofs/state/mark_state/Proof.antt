@@ -1,9 +1,9 @@
 -- `mark_state` meets its contract: the columns are right, so each start's test is condition S.
 -- Assumes nothing.
-use Prim.Native.Nat.{ℕ, _+_, _<_, _≤_}
-use mathlib.Core.Path.{_≡_, refl, sym, _∙_}
+use Prim.Native.Nat.{ℕ}
+use mathlib.Core.Path.{_≡_, refl, sym}
 use native.Mathlib.Omega.{arith}
-use lib.ListN.{length, getD}
+use lib.ListN.{length}
 use Rattle.plan.specs.View.{headerView}
 use Rattle.conditions.specs.State.{PlacedFormed}
 use Rattle.conditions.proofs.StateMarks.{same-marked}
@@ -34,25 +34,25 @@ abbrev coded : tie.After-fill-spoils → tie.After-fill-sets
 coded c = c .before .before .before .before .before
 
 slice-aggregate-fill-ends : tie.Need-slice-aggregate-fill-ends
-slice-aggregate-fill-ends c = search needs
+slice-aggregate-fill-ends c = refl
 
 fill-ends-requires : tie.Need-fill-ends-requires
 fill-ends-requires c κs = (formed (c .before .before), refl)
 
 slice-aggregate-fill-sets : tie.Need-slice-aggregate-fill-sets
-slice-aggregate-fill-sets c = search needs
+slice-aggregate-fill-sets c = refl
 
 fill-sets-requires : tie.Need-fill-sets-requires
 fill-sets-requires c κs = (formed (c .before .before .before .before .before), refl)
 
 slice-aggregate-fill-spoils : tie.Need-slice-aggregate-fill-spoils
-slice-aggregate-fill-spoils c = search needs
+slice-aggregate-fill-spoils c = sym (c .before .before .before .before .before .fill-ends .kept .1 .0)
 
 slice-aggregate-fill-spoils-2 : tie.Need-slice-aggregate-fill-spoils-2
-slice-aggregate-fill-spoils-2 c = search needs
+slice-aggregate-fill-spoils-2 c = sym (c .before .before .before .fill-sets .kept .1 .0)
 
 slice-aggregate-fill-spoils-3 : tie.Need-slice-aggregate-fill-spoils-3
-slice-aggregate-fill-spoils-3 c = search needs
+slice-aggregate-fill-spoils-3 c = refl
 
 fill-spoils-requires : tie.Need-fill-spoils-requires
 fill-spoils-requires c κs =
@@ -68,13 +68,13 @@ slice-aggregate-mark-needs-2 : tie.Need-slice-aggregate-mark-needs-2
 slice-aggregate-mark-needs-2 c = sym (values-long (entry (filled (coded (c .before .before .before .before .before)))))
 
 slice-aggregate-mark-needs-3 : tie.Need-slice-aggregate-mark-needs-3
-slice-aggregate-mark-needs-3 c = search needs
+slice-aggregate-mark-needs-3 c = sym (c .before .before .before .before .before .before .before .before .before .before .before .before .before .before .fill-ends .kept .1 .0)
 
 slice-aggregate-mark-needs-4 : tie.Need-slice-aggregate-mark-needs-4
-slice-aggregate-mark-needs-4 c = search needs
+slice-aggregate-mark-needs-4 c = sym (c .before .before .before .before .before .before .before .before .before .before .before .before .fill-sets .kept .1 .0)
 
 slice-aggregate-mark-needs-5 : tie.Need-slice-aggregate-mark-needs-5
-slice-aggregate-mark-needs-5 c = search needs
+slice-aggregate-mark-needs-5 c = sym (c .before .before .before .before .before .before .before .before .fill-spoils .kept .1 .1 .1 .1 .0)
 
 mark-needs-requires : tie.Need-mark-needs-requires
 unfolding headerView

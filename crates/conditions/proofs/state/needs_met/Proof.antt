@@ -10,10 +10,10 @@ add-end : tie.Need-add-end
 add-end c = search needs
 
 own-needs-met-requires : tie.Need-own-needs-met-requires
-own-needs-met-requires c κs = search needs
+own-needs-met-requires c κs = let s = c .before .before .before .before .before in ((s .pre .0 .0, s .pre .0 .1, s .pre .0 .2), s .pre .1 .0)
 
 placed-needs-met-requires : tie.Need-placed-needs-met-requires
-placed-needs-met-requires c κs = search needs
+placed-needs-met-requires c κs = let s = c .before .before .before .before .before .before .before in (s .pre .0 .0, s .pre .0 .1, s .pre .0 .3)
 
 returns : tie.Need-returns
 unfolding stateMet

@@ -6,7 +6,7 @@ use mathlib.Core.Bool.{true, false}
 use borrow.Author.Needs.{needs}
 use borrow.Author.Count.{below-more}
 use native.Mathlib.Omega.{arith}
-use lib.ListN.{length, getD}
+use lib.ListN.{getD}
 use Rattle.conditions.specs.State.{unmetAt, ownMet}
 use Rattle.conditions.proofs.StateColumns.{none-holds, one-holds}
 use Rattle.conditions.proofs.state.own_needs_met.Statement.{statement}

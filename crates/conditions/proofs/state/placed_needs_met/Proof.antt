@@ -6,7 +6,7 @@ use mathlib.Core.Bool.{true, false}
 use borrow.Author.Needs.{needs}
 use borrow.Author.Count.{below-more}
 use native.Mathlib.Omega.{arith}
-use lib.ListN.{length, getD}
+use lib.ListN.{getD}
 use Rattle.conditions.specs.State.{spoiltBy, placedMet}
 use Rattle.conditions.proofs.StateColumns.{none-holds, one-holds}
 use Rattle.conditions.proofs.state.placed_needs_met.Statement.{statement}
@@ -51,7 +51,7 @@ shared-slice-read-spoilt-2 :
 shared-slice-read-spoilt-2 c = omega arith
 
 spoilt-requires : tie.Need-spoilt-requires Inv-needs μ-needs Inv-activities μ-activities
-spoilt-requires c κs = search needs
+spoilt-requires c κs = tt
 
 add-j : tie.Need-add-j Inv-needs μ-needs Inv-activities μ-activities
 add-j c = omega arith

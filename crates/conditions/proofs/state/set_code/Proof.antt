@@ -1,9 +1,8 @@
 -- `set_code` meets its contract: no set before j is one of the variable.
 -- Assumes nothing.
-use Prim.Native.Nat.{ℕ, _+_, _-_, _<_, _≤_}
-use mathlib.Core.Path.{_≡_, refl, sym, ap, _∙_}
-use mathlib.Core.Option.{Option}
-use borrow.Author.Needs.{needs}
+use Prim.Native.Nat.{ℕ, _-_, _<_, _≤_}
+use mathlib.Core.Path.{_≡_, sym, ap, _∙_}
+use borrow.Author.Needs.{length-unmapped}
 use borrow.Author.Count.{below-more}
 use native.Mathlib.Numerals.{add-one}
 use native.Mathlib.Omega.{arith}
@@ -22,10 +21,10 @@ abbrev μ-loop : tie.MeasureT-loop
 
 -- the arrays are of four
 xs-long : (s : tie.Start Inv-loop μ-loop) → length (s .args .t1 .«set_variable») ≡ 4
-xs-long s = search needs
+xs-long s = length-unmapped ℕ (s .args .t1 .«set_variable») 4 (s .good .0 .1 .1 .1 .1 .1 .1 .1 .1 .1 .1 .1 .1 .1 .1 .1 .1 .1 .0 .1 .0 .1)
 
 ys-long : (s : tie.Start Inv-loop μ-loop) → length (s .args .t1 .«set_value») ≡ 4
-ys-long s = search needs
+ys-long s = length-unmapped ℕ (s .args .t1 .«set_value») 4 (s .good .0 .1 .1 .1 .1 .1 .1 .1 .1 .1 .1 .1 .1 .1 .1 .1 .1 .1 .1 .0 .1 .0 .1)
 
 loop-holds : tie.Need-loop-holds Inv-loop μ-loop
 loop-holds c = (omega arith, λ i l. absurd (omega arith))

@@ -1,16 +1,14 @@
 -- `spoil_need` meets its contract.
 -- Assumes nothing.
 use Prim.Native.Nat.{ℕ, _<_, _≤_}
-use mathlib.Core.Path.{_≡_, refl, sym, ap, _∙_}
+use mathlib.Core.Path.{_≡_, refl, _∙_}
 use native.Mathlib.Omega.{arith}
 use lib.ListN.{length, getD}
 use borrow.Author.Tests.{lt-ltb, le-ltb}
-use Rattle.rules.specs.Plan.{Setting}
 use Rattle.plan.specs.View.{activityView}
-use Rattle.conditions.specs.declared.state.StandingValue.{StandingValue}
-use Rattle.conditions.specs.State.{setCode, standingBy, spoilFrom, spoilNeed, needAt}
+use Rattle.conditions.specs.State.{spoilFrom, spoilNeed, needAt}
 use Rattle.conditions.proofs.StateSettings.{needs-count, need-is, need-small}
-use borrow.Author.Needs.{needs, length-unmapped}
+use borrow.Author.Needs.{length-unmapped}
 use Rattle.conditions.proofs.state.spoil_need.Statement.{statement}
 use Rattle.conditions.proofs.state.spoil_need.Tie as tie
 
@@ -32,19 +30,19 @@ small : (s : tie.Start) → s .args .j < s .args .t1 .«need_count» → (getD (
 small s h = need-small (s .args .t1) (s .pre .1 .0 .0) (variables-long s) (values-long s) (s .args .j) h (s .pre .1 .0 .1)
 
 mul-variable : tie.Need-mul-variable
-mul-variable c = search needs
+mul-variable c = omega (arith, c .if1 .taken, c .before .before .before .pre .1 .0 .0)
 
 element-copy-out-variable : tie.Need-element-copy-out-variable
-element-copy-out-variable c = search needs
+element-copy-out-variable c = omega (arith, c .if1 .taken, c .before .before .before .pre .1 .0 .0)
 
 mul-value : tie.Need-mul-value
-mul-value c = search needs
+mul-value c = omega (arith, c .before .if1 .taken, c .before .before .before .before .pre .1 .0 .0)
 
 element-copy-out-value : tie.Need-element-copy-out-value
-element-copy-out-value c = search needs
+element-copy-out-value c = omega (arith, c .before .if1 .taken, c .before .before .before .before .pre .1 .0 .0)
 
 set-code-requires : tie.Need-set-code-requires
-set-code-requires c κs = search needs
+set-code-requires c κs = c .before .before .before .before .before .pre .0
 
 cast-standing-at : tie.Need-cast-standing-at
 cast-standing-at c =

@@ -1,10 +1,8 @@
 -- `standing_at` meets its contract: the sets of the first i are weighed.
 -- Assumes nothing.
-use Prim.Native.Nat.{ℕ, _+_, _-_, _*_, _<_, _≤_}
-use mathlib.Core.Path.{_≡_, refl, sym, ap, _∙_}
-use borrow.Author.Needs.{needs}
+use Prim.Native.Nat.{_-_, _≤_}
+use mathlib.Core.Path.{_≡_, sym}
 use native.Mathlib.Omega.{arith}
-use lib.ListN.{length, getD}
 use Rattle.conditions.specs.State.{standingBy}
 use Rattle.conditions.proofs.StateColumns.{stands-none, stands-then}
 use Rattle.conditions.proofs.state.standing_at.Statement.{statement}
@@ -38,7 +36,7 @@ shared-slice-read-later-2 : tie.Need-shared-slice-read-later-2 Inv-loop μ-loop
 shared-slice-read-later-2 c = omega arith
 
 later-requires : tie.Need-later-requires Inv-loop μ-loop
-later-requires c κs = search needs
+later-requires c κs = tt
 
 add-i : tie.Need-add-i Inv-loop μ-loop
 add-i c = omega arith

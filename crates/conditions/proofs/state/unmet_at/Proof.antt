@@ -1,6 +1,6 @@
 -- `unmet_at` meets its contract.
 -- Assumes nothing.
-use mathlib.Core.Path.{_≡_, sym, ap, _∙_}
+use mathlib.Core.Path.{sym}
 use borrow.Author.Tests.{le-leb, lt-leb, lt-ltb, le-ltb}
 use Rattle.conditions.specs.State.{unmetAt}
 use borrow.Author.Needs.{needs}
