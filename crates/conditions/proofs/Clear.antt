@@ -17,7 +17,7 @@ use Rattle.rules.proofs.Tests.{each-at, each-all, ever-at, and-left, and-right,
 use Rattle.rules.proofs.Every.{every-all}
 use Rattle.rules.proofs.Cases.{by-order}
 use Rattle.rules.proofs.Local.{bool-ext, holds-of, holds-from, holds-till, loadKept-more, loadKept-own}
-use Rattle.conditions.proofs.Lists.{each-same}
+use Rattle.placed.proofs.Lists.{each-same}
 use Rattle.conditions.specs.declared.quantity.Quantity.the-variants.{Shared}
 use Rattle.conditions.specs.Quantity.{shareUnit, quantityOf}
 use Rattle.conditions.specs.Clear.{Loaded, room, loadClear, clearFor, clearSince}

@@ -16,9 +16,9 @@ use Rattle.rules.proofs.Cases.{by-order}
 use Rattle.plan.specs.View.{noStruct, activityView}
 use Rattle.plan.specs.declared.Activity.{Activity as ActivityStruct}
 use Rattle.conditions.specs.Ended.{never, firstEnd, allEnded, readyFrom}
-use Rattle.conditions.specs.View.{entriesView}
-use Rattle.conditions.proofs.Lists.{every-more}
-use Rattle.conditions.proofs.StateEntries.{entries-more, entries-none}
+use Rattle.placed.specs.View.{entriesView}
+use Rattle.placed.proofs.Lists.{every-more}
+use Rattle.placed.proofs.Entries.{entries-more, entries-none}
 
 -- the smaller of two is at most s when one of them is; the larger, when both are
 leb-min : (a b s : ℕ) → leb (min a b) s ≡ (leb a s || leb b s)

@@ -1,12 +1,3 @@
-pub mod StateMarks
-pub mod StateEntries
-pub mod StateColumns
-pub mod StateLaws
-pub mod StateSettings
-pub mod StateMeets
-pub mod ChargeLaws
-pub mod ChargeDraws
-pub mod Lists
 pub mod Marks
 pub mod Places
 pub mod Allowed

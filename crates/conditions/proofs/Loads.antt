@@ -16,9 +16,9 @@ use Rattle.rules.specs.Load.{load}
 use Rattle.rules.proofs.Cases.{by-order}
 use Rattle.plan.specs.View.{noStruct, activityView}
 use Rattle.plan.specs.declared.Activity.{Activity as ActivityStruct}
-use Rattle.conditions.specs.View.{entriesView}
+use Rattle.placed.specs.View.{entriesView}
 use Rattle.conditions.specs.Clear.{Raised, Loaded}
-use Rattle.conditions.proofs.StateEntries.{entries-more, entries-none}
+use Rattle.placed.proofs.Entries.{entries-more, entries-none}
 
 -- what a tick is raised by, by where it lies
 before : (from t k w : ℕ) → k < from → cond (leb from k && ltb k t) w 0 ≡ 0

@@ -6,8 +6,8 @@ use mathlib.Core.Bool.{Bool, cond}
 use mathlib.Core.List.{List}
 use native.Mathlib.Omega.{arith}
 use lib.ListN.{length, getD, set}
-use Rattle.conditions.specs.Marked.{Marked, Room}
-use Rattle.conditions.proofs.StateMarks.{more-marked}
+use Rattle.placed.specs.Marked.{Marked, Room}
+use Rattle.placed.proofs.Marking.{more-marked}
 
 module _ (test : ℕ → Bool) (by : ℕ) where
   -- the next start is raised

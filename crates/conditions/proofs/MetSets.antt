@@ -12,8 +12,8 @@ use lib.Pow.{pow-pos, pow-add}
 use Rattle.rules.specs.Conditions.{conditionCount, allConditions, has, meetsSet}
 use Rattle.rules.proofs.Tests.{last-or}
 use Rattle.rules.proofs.Sets.{meets-at, meets-all, all-of-them}
-use Rattle.conditions.proofs.Lists.{each-same}
-use Rattle.conditions.specs.Marked.{metBelow, metSet, holdsSet}
+use Rattle.placed.proofs.Lists.{each-same}
+use Rattle.placed.specs.Marked.{metBelow, metSet, holdsSet}
 
 -- bits above a condition's do not change whether the set has it
 has-low : (m k c : ℕ) → has (m + k * 2 * 2 ^ c) c ≡ has m c

@@ -16,10 +16,10 @@ use Rattle.rules.proofs.Cases.{by-order}
 use Rattle.plan.specs.View.{headerView, activityView}
 use Rattle.plan.specs.declared.Header.{Header as HeaderStruct}
 use Rattle.plan.specs.declared.Activity.{Activity as ActivityStruct}
-use Rattle.conditions.specs.declared.Schedule.{Schedule as ScheduleStruct}
-use Rattle.conditions.specs.Ready.{Ready}
-use Rattle.conditions.specs.Marked.{Marked, Room, Table, metBelow, metSet, bitOf}
-use Rattle.conditions.proofs.StateMarks.{same-marked}
+use Rattle.placed.specs.declared.Schedule.{Schedule as ScheduleStruct}
+use Rattle.placed.specs.Ready.{Ready}
+use Rattle.placed.specs.Marked.{Marked, Room, Table, metBelow, metSet, bitOf}
+use Rattle.placed.proofs.Marking.{same-marked}
 use Rattle.conditions.proofs.Places.{starts-few}
 use Rattle.conditions.proofs.MetSets.{met-more, met-none, met-low}
 

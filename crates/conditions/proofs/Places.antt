@@ -8,10 +8,10 @@ use Rattle.rules.specs.WellFormed.{HeaderFormed, ActivityFormed}
 use Rattle.plan.specs.View.{Sized, headerView, activityView}
 use Rattle.plan.specs.declared.Header.{Header as HeaderStruct}
 use Rattle.plan.specs.declared.Activity.{Activity as ActivityStruct}
-use Rattle.conditions.specs.declared.Schedule.{Schedule as ScheduleStruct}
-use Rattle.conditions.specs.View.{scheduleView}
-use Rattle.conditions.specs.Ready.{Ready, Bounded}
-use Rattle.conditions.proofs.StateEntries.{entryAt, entry-in}
+use Rattle.placed.specs.declared.Schedule.{Schedule as ScheduleStruct}
+use Rattle.placed.specs.View.{scheduleView}
+use Rattle.placed.specs.Ready.{Ready, Bounded}
+use Rattle.placed.proofs.Entries.{entryAt, entry-in}
 
 -- what is ready is bounded
 pub bounded : (h : HeaderStruct) (s : ScheduleStruct) (a : ActivityStruct) → Ready h s a → Bounded s

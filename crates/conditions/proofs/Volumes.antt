@@ -13,8 +13,8 @@ use Rattle.rules.specs.Tests.{total}
 use Rattle.rules.specs.MeetsV.{totalVolume, volumeKept, meetsV}
 use Rattle.plan.specs.View.{noStruct, activityView}
 use Rattle.plan.specs.declared.Activity.{Activity as ActivityStruct}
-use Rattle.conditions.specs.View.{entriesView}
-use Rattle.conditions.proofs.StateEntries.{entries-more, entries-none}
+use Rattle.placed.specs.View.{entriesView}
+use Rattle.placed.proofs.Entries.{entries-more, entries-none}
 
 pub volume-more : (activities : List ActivityStruct) (starts : List ℕ) (n : ℕ) → totalVolume (entriesView activities starts (n + 1)) ≡ getD activities n noStruct .volume + totalVolume (entriesView activities starts n)
 unfolding totalVolume total activityView

@@ -1,16 +1,16 @@
 // D: the starts at which each activity in `after` is placed and has ended.
-use crate::Schedule;
 use crate::table::mark_from;
+use placed::Schedule;
 use plan::Activity;
 ghost use mathlib.Core.Path.{_≡_};
 ghost use mathlib.Core.Bool.{cond};
 ghost use Prim.Native.Nat.{_+_, min, max};
 ghost use lib.Dec.{eqb};
 ghost use Rattle.plan.specs.View.{Sized, activityView};
-ghost use Rattle.conditions.specs.View.{scheduleView};
-ghost use Rattle.conditions.specs.Ready.{Bounded};
+ghost use Rattle.placed.specs.View.{scheduleView};
+ghost use Rattle.placed.specs.Ready.{Bounded};
 ghost use Rattle.conditions.specs.Ended.{firstEnd, allEnded, readyFrom};
-ghost use Rattle.conditions.specs.Marked.{Marked, Room};
+ghost use Rattle.placed.specs.Marked.{Marked, Room};
 
 // Past every start: the end of what is not placed.
 const NEVER: u32 = 8192;

@@ -1,15 +1,14 @@
 // The nine conditions of document 01, tested for every start of a candidate beside the activities placed.
 mod after;
-mod charge;
 mod load;
 mod quantity;
 mod sets;
-mod state;
 mod table;
 mod volume;
 mod warmup;
 mod windows;
 
+pub use placed::Schedule;
 use plan::Activity;
 use plan::Header;
 pub use sets::bit;
@@ -21,16 +20,9 @@ ghost use lib.ListN.{length, getD};
 ghost use Rattle.rules.specs.Conditions.{conditionCount, meets};
 ghost use Rattle.rules.specs.Outcomes.{starts};
 ghost use Rattle.plan.specs.View.{headerView, activityView};
-ghost use Rattle.conditions.specs.View.{scheduleView};
-ghost use Rattle.conditions.specs.Ready.{Ready};
-ghost use Rattle.conditions.specs.Marked.{Marked, Table};
-
-// The activities placed so far, by place, each with its start: the first `count` entries of two arrays.
-pub struct Schedule {
-    pub count: usize,
-    pub activities: [Activity; 64],
-    pub starts: [u32; 64],
-}
+ghost use Rattle.placed.specs.View.{scheduleView};
+ghost use Rattle.placed.specs.Ready.{Ready};
+ghost use Rattle.placed.specs.Marked.{Marked, Table};
 
 // Adds the bit of condition number c to the entries of the starts that meet it.
 fn mark(

@@ -1,8 +1,8 @@
 // U, E and P: the load of the placed in each tick, and the starts from which each tick of the candidate has room for it.
-use crate::Schedule;
 use crate::quantity::Quantity;
 use crate::quantity::quantity_of;
 use crate::table::raise;
+use placed::Schedule;
 use plan::Activity;
 use plan::Header;
 ghost use mathlib.Core.Path.{_≡_};
@@ -15,11 +15,11 @@ ghost use Rattle.rules.specs.MeetsE.{meetsE};
 ghost use Rattle.rules.specs.MeetsP.{meetsP};
 ghost use Rattle.rules.specs.Outcomes.{starts};
 ghost use Rattle.plan.specs.View.{Sized, headerView, activityView};
-ghost use Rattle.conditions.specs.View.{scheduleView};
-ghost use Rattle.conditions.specs.Ready.{Bounded, Ready};
+ghost use Rattle.placed.specs.View.{scheduleView};
+ghost use Rattle.placed.specs.Ready.{Bounded, Ready};
 ghost use Rattle.conditions.specs.Quantity.{quantityOf};
 ghost use Rattle.conditions.specs.Clear.{Loaded, Raised, clearSince, room, clearFor, loadClear};
-ghost use Rattle.conditions.specs.Marked.{Marked, Room};
+ghost use Rattle.placed.specs.Marked.{Marked, Room};
 
 // Adds a weight to the load of each tick from `from` to before `to`.
 fn add_load(from: u32, to: u32, weight: u32, load: &mut [u64])

@@ -4,7 +4,7 @@ ghost use mathlib.Core.Bool.{_||_, not};
 ghost use Prim.Native.Nat.{_<_, _≤_};
 ghost use lib.ListN.{getD};
 ghost use Rattle.rules.specs.Conditions.{conditionCount, conditionLetters, has};
-ghost use Rattle.conditions.specs.Marked.{bitOf, holdsSet};
+ghost use Rattle.placed.specs.Marked.{bitOf, holdsSet};
 
 // The bit of condition number c.
 pub fn bit(c: u32) -> u32

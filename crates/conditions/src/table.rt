@@ -1,17 +1,11 @@
 // The table of sets, one for each start, to which the tests add their bits.
+use placed::mark_if;
 ghost use mathlib.Core.Path.{_≡_};
 ghost use mathlib.Core.Bool.{cond};
 ghost use Prim.Native.Nat.{ℕ, _+_, _<_, _≤_};
 ghost use lib.Dec.{leb};
 ghost use lib.ListN.{length, getD, set};
-ghost use Rattle.conditions.specs.Marked.{Marked, Room};
-
-// `by` where the condition is met, else 0.
-fn bit_if(met: bool, by: u32) -> u32
-    ensures { λ r. ⌜ (r ≡ cond met by 0) × (r ≤ by) ⌝ }
-{
-    if met { by } else { 0 }
-}
+ghost use Rattle.placed.specs.Marked.{Marked, Room};
 
 // Adds `by` to the entry of the start s where it meets the condition.
 pub fn raise(s: u32, met: bool, by: u32, table: &mut [u32])
@@ -19,7 +13,7 @@ pub fn raise(s: u32, met: bool, by: u32, table: &mut [u32])
     ensures { λ _. ⌜ now (table .exit) ≡ set (now (table .entry)) s (getD (now (table .entry)) s 0 + cond met by 0) ⌝ }
 {
     let at = s as usize;
-    table[at] = table[at] + bit_if(met, by);
+    table[at] = table[at] + mark_if(met, by);
 }
 
 // Adds `by` to the entries of the first `count` starts, from the start `from` on.

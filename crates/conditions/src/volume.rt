@@ -1,6 +1,6 @@
 // V: the volumes of the placed and the candidate, at every start or at none.
-use crate::Schedule;
 use crate::table::mark_from;
+use placed::Schedule;
 use plan::Activity;
 use plan::Header;
 ghost use mathlib.Core.Path.{_≡_};
@@ -9,9 +9,9 @@ ghost use Prim.Native.Nat.{_+_, _≤_};
 ghost use lib.Dec.{leb};
 ghost use Rattle.rules.specs.MeetsV.{totalVolume, meetsV};
 ghost use Rattle.plan.specs.View.{headerView, activityView};
-ghost use Rattle.conditions.specs.View.{scheduleView};
-ghost use Rattle.conditions.specs.Ready.{Bounded};
-ghost use Rattle.conditions.specs.Marked.{Marked, Room};
+ghost use Rattle.placed.specs.View.{scheduleView};
+ghost use Rattle.placed.specs.Ready.{Bounded};
+ghost use Rattle.placed.specs.Marked.{Marked, Room};
 
 // The volumes of the placed, summed.
 fn total_volume(schedule: Schedule) -> u64

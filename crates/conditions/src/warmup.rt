@@ -8,7 +8,7 @@ ghost use lib.Dec.{leb};
 ghost use Rattle.rules.specs.Warmup.{warmupAt};
 ghost use Rattle.rules.specs.MeetsH.{meetsH};
 ghost use Rattle.plan.specs.View.{headerView, activityView};
-ghost use Rattle.conditions.specs.Marked.{Marked, Room};
+ghost use Rattle.placed.specs.Marked.{Marked, Room};
 
 // Whether the warm-up before the start s begins at tick 0 or later.
 fn warmed(minute: u32, s: u32, warm: u32) -> bool

@@ -6,7 +6,7 @@ ghost use Prim.Native.Nat.{_≤_};
 ghost use lib.ListN.{length, take};
 ghost use Rattle.rules.specs.MeetsW.{allowed};
 ghost use Rattle.plan.specs.View.{Sized, windowsView, activityView};
-ghost use Rattle.conditions.specs.Marked.{Marked, Room};
+ghost use Rattle.placed.specs.Marked.{Marked, Room};
 
 // Whether the start s is in one of the first n windows, or n is 0.
 fn in_window<'a>(from: &'a [u32], to: &'a [u32], n: usize, s: u32) -> bool

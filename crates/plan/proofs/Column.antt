@@ -1,19 +1,17 @@
 -- Laws of ids in a column: among the first n, and the line of one.
 -- Assumes nothing.
-use Prim.Native.Nat.{ℕ, zero, suc, _+_, _≤_, _<_}
-use mathlib.Core.Path.{_≡_, refl, sym, ap, _∙_}
-use mathlib.Core.Bool.{Bool, true, false, cond, _||_, or-true, or-false}
-use mathlib.Core.List.{List, [], _∷_, _++_, map}
+use Prim.Native.Nat.{ℕ, suc, _+_, _≤_, _<_}
+use mathlib.Core.Path.{_≡_, refl, ap}
+use mathlib.Core.Bool.{true, false, cond, _||_}
+use mathlib.Core.List.{List, [], _∷_, map}
 use native.Mathlib.Numerals.{add-one}
-use native.Mathlib.Omega.{arith}
 use lib.Dec.{eqb}
 use lib.ListN.{length, take, drop, getD}
 use borrow.Author.Tests.{eq-eqb, ne-eqb}
-use Rattle.rules.specs.Tests.{anyOf, every}
-use Rattle.rules.specs.Plan.{Activity}
+use Rattle.rules.specs.Tests.{anyOf}
 use Rattle.rules.specs.Reading.{hasId, lineNumber}
 use Rattle.plan.specs.View.{activityView}
-use Rattle.plan.specs.Collected.{isId, idOf, amongIds, lineAmong}
+use Rattle.plan.specs.Collected.{isId, idOf, lineAmong}
 use Rattle.plan.specs.declared.Activity.{Activity as ActivityStruct}
 use Rattle.plan.proofs.Fronts.{front-cons, front-end}
 

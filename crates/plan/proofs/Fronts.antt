@@ -1,12 +1,12 @@
 -- Laws of the first n elements of a list at an index, as loops over an array meet them.
 -- Assumes nothing.
-use Prim.Native.Nat.{ℕ, zero, suc, _+_, _-_, _≤_, _<_}
+use Prim.Native.Nat.{ℕ, _+_, _≤_, _<_}
 use mathlib.Core.Path.{_≡_, refl, sym, ap, _∙_}
 use mathlib.Core.List.{List, [], _∷_, _++_, map}
 use native.Mathlib.Numerals.{add-one}
 use native.Mathlib.Omega.{arith}
-use lib.ListN.{length, take, drop, getD, set, drop-of-length-le, length-set, length-take}
-use lib.Seq.{drop-cons, getD-take, length-take-le, take-suc, take-suc-set, append-snoc, take-set-le, drop-set-lt, take-set-lt, take-all}
+use lib.ListN.{length, take, drop, getD, set, drop-of-length-le}
+use lib.Seq.{drop-cons, getD-take, length-take-le, take-suc, take-suc-set, append-snoc, drop-set-lt, take-set-lt}
 
 module _ {A : Type 0} (xs : List A) (n : ℕ) (h : n ≤ length xs) where
   pub front-cons : (i : ℕ) (d : A) → i < n → drop i (take n xs) ≡ getD xs i d ∷ drop (i + 1) (take n xs)
@@ -28,11 +28,6 @@ front-set xs i a h = rw add-one (take-suc-set xs i a h)
 pub map-append : {A B : Type 0} (f : A → B) (xs ys : List A) → map f (xs ++ ys) ≡ map f xs ++ map f ys
 map-append f [] ys = refl
 map-append f (x ∷ xs) ys = ap (λ l. f x ∷ l) (map-append f xs ys)
-
-pub map-drop : {A B : Type 0} (f : A → B) (i : ℕ) (xs : List A) → map f (drop i xs) ≡ drop i (map f xs)
-map-drop f zero xs = refl
-map-drop f (suc i) [] = refl
-map-drop f (suc i) (x ∷ xs) = map-drop f i xs
 
 -- an element put at i, and the one that stood there held in its stead
 pub put-more : {A : Type 0} (xs : List A) (n i : ℕ) (a d : A) → n ≤ length xs → i < n → take (i + 1) (set xs i a) ++ (getD xs i d ∷ drop (i + 1) (take n (set xs i a))) ≡ take i xs ++ (a ∷ drop i (take n xs))

@@ -1,24 +1,23 @@
 -- Laws of the whole reading: the checks 1, 7 and 9, the first line, and what the answer's struct says.
 -- Assumes nothing.
-use Prim.Native.Nat.{ℕ, zero, suc, _+_, _-_, _≤_, _<_}
-use mathlib.Core.Path.{_≡_, refl, sym, ap, _∙_}
-use mathlib.Core.Bool.{Bool, true, false, cond}
-use mathlib.Core.List.{List, [], _∷_, _++_, map}
-use mathlib.Core.Option.{Option, none, some}
+use Prim.Native.Nat.{ℕ, _+_, _≤_, _<_}
+use mathlib.Core.Path.{_≡_, refl, ap, _∙_}
+use mathlib.Core.Bool.{true, false}
+use mathlib.Core.List.{List, [], _∷_, map}
 use native.Mathlib.Omega.{arith}
-use lib.ListN.{length, getD, take, drop}
+use lib.ListN.{length, getD, take}
 use borrow.Author.Tests.{lt-ltb, le-ltb, eq-eqb, ne-eqb}
 use Rattle.rules.specs.Bytes.{bytes}
-use Rattle.rules.specs.Lines.{lines, ended, fields}
-use Rattle.rules.specs.Fields.{Read, value, fault}
-use Rattle.rules.specs.Plan.{Header, Activity, Plan}
+use Rattle.rules.specs.Lines.{lines, fields}
+use Rattle.rules.specs.Fields.{value, fault}
+use Rattle.rules.specs.Plan.{Header, Plan}
 use Rattle.rules.specs.Order.{order}
 use Rattle.rules.specs.HeaderLine.{headerOf}
-use Rattle.rules.specs.Reading.{Reading, accepted, refused, no, formed, onLine, misplaced, lineNumber, outOfReach, judged, afterLines, planLines, activityLines, reading}
+use Rattle.rules.specs.Reading.{accepted, no, formed, onLine, misplaced, outOfReach, judged, afterLines, planLines, activityLines, reading}
 use Rattle.text.specs.Text.{indexOf}
-use Rattle.plan.specs.View.{activityView, noStruct, Sized, headerView, planView}
+use Rattle.plan.specs.View.{activityView, noStruct, Sized}
 use Rattle.plan.specs.Reading.{inOrder, readingView}
-use Rattle.plan.specs.Collected.{orderStruct, idOf, lineAmong, foundAt, AllSized}
+use Rattle.plan.specs.Collected.{orderStruct, lineAmong, foundAt}
 use Rattle.plan.specs.LinesView.{Collected, activitiesView, linesView}
 use Rattle.plan.specs.declared.Activity.{Activity as ActivityStruct}
 use Rattle.plan.specs.declared.Reading.{Reading as ReadingStruct}

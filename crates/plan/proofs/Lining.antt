@@ -1,22 +1,20 @@
 -- Laws of the activity lines: what one more line makes of them.
 -- Assumes nothing.
-use Prim.Native.Nat.{ℕ, zero, suc, _+_, _≤_, _<_}
-use mathlib.Core.Path.{_≡_, refl, sym, ap, _∙_}
-use mathlib.Core.Bool.{Bool, true, false, cond, not, _&&_}
-use mathlib.Core.List.{List, [], _∷_, _++_, map}
-use native.Mathlib.Nat.{add-suc}
+use Prim.Native.Nat.{ℕ, suc, _+_, _≤_, _<_}
+use mathlib.Core.Path.{_≡_, refl, _∙_}
+use mathlib.Core.Bool.{true, false}
+use mathlib.Core.List.{List, [], _∷_, _++_}
 use native.Mathlib.Omega.{arith}
-use lib.Dec.{eqb, leb}
-use lib.ListN.{length, getD, take, length-map}
+use lib.ListN.{length, take, length-map}
 use lib.Seq.{length-take-le}
 use borrow.Author.Tests.{le-leb, lt-leb, eq-eqb, ne-eqb}
-use Rattle.rules.specs.Bytes.{bytes, same}
+use Rattle.rules.specs.Bytes.{bytes}
 use Rattle.rules.specs.Tests.{anyOf}
 use Rattle.rules.specs.Lines.{splitOn, ended, fields}
-use Rattle.rules.specs.Fields.{Read, value, fault}
+use Rattle.rules.specs.Fields.{value, fault}
 use Rattle.rules.specs.Plan.{Header, Activity}
 use Rattle.rules.specs.ActivityLine.{activityOf}
-use Rattle.rules.specs.Reading.{Reading, accepted, no, formed, onLine, hasId, activityLines}
+use Rattle.rules.specs.Reading.{no, formed, onLine, hasId, activityLines}
 use Rattle.plan.specs.View.{activityView}
 use Rattle.plan.specs.Collected.{isId}
 use Rattle.plan.specs.LinesView.{isFormed, Collected, activitiesView, linesView, linesFrom}

@@ -1,6 +1,6 @@
 -- Lists of one kind read as lists of another, and the lists of an activity.
 -- Assumes nothing.
-use Prim.Native.Nat.{ℕ, zero, suc, _+_, _≤_, _<_}
+use Prim.Native.Nat.{ℕ, zero, suc, _+_, _≤_}
 use mathlib.Core.Path.{_≡_, refl, sym, ap, _∙_}
 use mathlib.Core.Bool.{Bool, true, false, cond, not, _&&_}
 use mathlib.Core.List.{List, [], _∷_, map}
@@ -12,8 +12,8 @@ use lib.Seq.{drop-cons}
 use Rattle.rules.specs.Bytes.{bytes, same}
 use Rattle.rules.specs.Tests.{every}
 use Rattle.rules.specs.Lines.{splitOn}
-use Rattle.rules.specs.Number.{isNumber, valueOf}
-use Rattle.rules.specs.Fields.{Read, value, fault, Kind, within, rising, items, listField, numbers, windowKind, settingKind, isPair, partOf}
+use Rattle.rules.specs.Number.{valueOf}
+use Rattle.rules.specs.Fields.{Read, value, fault, Kind, within, rising, items, listField, numbers, windowKind, settingKind}
 use Rattle.text.specs.Text.{isItem, itemOf, kindOf, pairs, listView}
 use Rattle.text.specs.declared.list.Form.{Form}
 use Rattle.text.specs.declared.list.ListRead.{ListRead}

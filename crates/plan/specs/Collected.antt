@@ -1,14 +1,12 @@
 -- Activities as the reader collects them: structs in arrays, with a column of their ids.
-use Prim.Native.Nat.{ℕ, zero, suc, _+_, _≤_}
-use mathlib.Core.Path.{_≡_}
+use Prim.Native.Nat.{ℕ, suc}
 use mathlib.Core.Bool.{Bool, cond}
-use mathlib.Core.List.{List, [], _∷_, map}
+use mathlib.Core.List.{List, [], _∷_}
 use mathlib.Core.Option.{Option, none, some}
 use lib.Dec.{leb, ltb, eqb}
-use lib.ListN.{take, getD}
+use lib.ListN.{getD}
 use Rattle.rules.specs.Tests.{anyOf}
-use Rattle.rules.specs.Plan.{Header, Activity}
-use Rattle.rules.specs.Reading.{Reading, accepted, no, activityLines}
+use Rattle.rules.specs.Plan.{Activity}
 use Rattle.plan.specs.View.{activityView, noStruct, Sized}
 use Rattle.plan.specs.declared.Activity.{Activity as ActivityStruct}
 
@@ -40,7 +38,7 @@ orderStruct (a ∷ rest) = insertStruct a (orderStruct rest)
 
 -- each is within its arrays
 unfoldable pub AllSized : List ActivityStruct → Type 0
-AllSized [] = ℕ
+AllSized [] = Unit {0}
 AllSized (a ∷ rest) = Sized a × AllSized rest
 
 -- ---- `after`

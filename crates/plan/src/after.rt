@@ -39,6 +39,7 @@ pub fn first_misplaced(list: [Activity; 64], ids: &[u32], n: usize) -> usize
     requires { ⌜ (n ≤ 64) × (n ≤ length (now ids)) × (take n (now ids) ≡ map idOf (take n list)) × AllSized (take n list) ⌝ }
     ensures { λ r. ⌜ misplaced [] (map activityView (take n list)) ≡ foundAt list n r ⌝ }
 {
+    // places that are left to try
     let mut left = n;
     while 0 < left {
         let i = n - left;

@@ -1,15 +1,12 @@
 // The lines of a plan file behind the first: the activities, in the order of their lines.
 ghost use mathlib.Core.Path.{_≡_};
-ghost use mathlib.Core.Bool.{true, _&&_};
+ghost use mathlib.Core.Bool.{true};
 ghost use mathlib.Core.List.{List, [], _∷_, _++_};
 ghost use Prim.Native.Nat.{ℕ, _+_, _≤_, _<_};
-ghost use lib.Dec.{eqb};
-ghost use lib.ListN.{length, getD, take, drop};
-ghost use Rattle.rules.specs.Bytes.{same};
+ghost use lib.ListN.{length, take, drop};
 ghost use Rattle.rules.specs.Lines.{splitOn, lines, ended, fields};
 ghost use Rattle.rules.specs.Reading.{activityLines};
 ghost use Rattle.plan.specs.View.{headerView, Sized};
-ghost use Rattle.plan.specs.Collected.{idOf};
 ghost use Rattle.plan.specs.LinesView.{Collected, isFormed, linesView, linesFrom};
 use crate::Activity;
 use crate::Header;
@@ -133,7 +130,7 @@ fn add_line(t: Lines, l: &[u8], h: Header) -> Lines
     push(t, a)
 }
 
-// The lines of s from `at` on, in a plan with the header h.
+// The lines of s from the byte `from` on, in a plan with the header h.
 pub fn read_activities(s: &[u8], from: usize, h: Header) -> Lines
     requires { ⌜ from ≤ length (now s) ⌝ }
     ensures { λ r. ⌜ Collected r × (linesView (headerView h) r ≡ activityLines (headerView h) [] 2 (lines (drop from (now (s .entry))))) ⌝ }

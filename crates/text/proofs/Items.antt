@@ -1,18 +1,17 @@
 -- Laws of a list's items at a cursor, for a list of any kind; and of the items of a form.
 -- Assumes nothing.
-use mathlib.Core.Path.{_≡_, refl, sym, ap, _∙_}
-use mathlib.Core.Bool.{Bool, true, false, cond, not, _&&_, _||_, and-false, or-true, or-false}
-use mathlib.Core.List.{List, [], _∷_, _++_, map, append-nil}
-use Prim.Native.Nat.{ℕ, zero, suc, _+_, _-_, _≤_, _<_}
+use mathlib.Core.Path.{_≡_, refl, ap, _∙_}
+use mathlib.Core.Bool.{Bool, true, false, cond, and-false, or-true, or-false}
+use mathlib.Core.List.{List, [], _∷_, _++_, append-nil}
+use Prim.Native.Nat.{ℕ, zero, suc, _+_, _≤_, _<_}
 use native.Mathlib.Nat.{not-suc-le-zero, le-of-suc-le-suc, zero-add, add-zero}
 use native.Mathlib.Numerals.{add-one}
 use native.Mathlib.Omega.{arith}
-use lib.Dec.{leb}
 use lib.ListN.{length, take, set}
 use lib.Seq.{append-snoc}
 use borrow.Author.Tests.{le-leb, lt-leb}
 use Rattle.rules.specs.Tests.{every}
-use Rattle.rules.specs.Fields.{Read, value, fault, Kind, within, rising, items}
+use Rattle.rules.specs.Fields.{value, fault, Kind, within, rising, items}
 use Rattle.text.specs.Text.{isItem, itemOf, kindOf, pairs}
 use Rattle.text.specs.Cursor.{itemsFrom, listFrom}
 use Rattle.text.specs.declared.list.Form.{Form}

@@ -1,15 +1,13 @@
 -- Laws of two numbers around a byte, and of what read_item says.
 -- Assumes nothing.
-use mathlib.Core.Path.{_≡_, refl, sym, ap, _∙_}
-use mathlib.Core.Bool.{Bool, true, false, cond, not, _&&_}
+use mathlib.Core.Path.{_≡_, refl, ap, _∙_}
+use mathlib.Core.Bool.{Bool, true, false, cond}
 use mathlib.Core.List.{List, [], _∷_}
 use Prim.Native.Nat.{ℕ, suc, _+_, _-_, _≤_, _<_}
 use native.Mathlib.Omega.{arith}
-use lib.Dec.{eqb}
-use lib.ListN.{length, getD, take, drop}
+use lib.ListN.{length, take, drop}
 use borrow.Author.Tests.{ne-eqb}
 use Rattle.rules.specs.Tests.{every}
-use Rattle.rules.specs.Number.{isNumber, valueOf}
 use Rattle.rules.specs.Lines.{splitOn}
 use Rattle.rules.specs.Fields.{isPair, partOf}
 use Rattle.text.specs.Text.{numberOf, indexOf, isItem, itemOf, pairIs, itemIs}

@@ -77,16 +77,6 @@ module _ (b : ℕ) (s : List ℕ) (at end : ℕ) (h : at ≤ length s) (e : end 
   pub parts-last : length s ≤ end → splitOn b (drop at s) ≡ take (end - at) (drop at s) ∷ []
   parts-last k = rw (← after-last b s end k) (cut b s at end h e)
 
-  -- part j starts at at, and part k comes later: so a b follows
-  pub parts-room : (j k : ℕ) → j < k → k < length (splitOn b s) → drop j (splitOn b s) ≡ splitOn b (drop at s) → end < length s
-  parts-room j k less inside here = go (ltb end (length s)) refl
-    where
-      go : (t : Bool) → ltb end (length s) ≡ t → end < length s
-      go true q = ltb-true end (length s) q
-      go false q =
-          let one : length (drop j (splitOn b s)) ≡ 1 = ap length (here ∙ parts-last (ltb-false end (length s) q)) in
-          absurd (omega (arith, simp length-drop at one))
-
 pub part-at : (l : List (List ℕ)) (j : ℕ) (p : List ℕ) (ps : List (List ℕ)) → drop j l ≡ p ∷ ps → getD l j [] ≡ p
 part-at l j p ps e = ap (λ n. getD l n []) (sym (add-zero j)) ∙ sym (getD-drop j l 0 []) ∙ ap (λ q. getD q 0 []) e
 

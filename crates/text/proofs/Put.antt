@@ -1,13 +1,13 @@
 -- Laws of `put`: a byte at the front, a byte at the back, nothing, the length, and one piece after another.
 -- Assumes nothing.
-use mathlib.Core.Path.{_≡_, refl, sym, ap, _∙_}
+use mathlib.Core.Path.{_≡_, sym, ap, _∙_}
 use mathlib.Core.List.{List, [], _∷_, _++_, append-assoc}
-use Prim.Native.Nat.{ℕ, zero, suc, _+_, _-_, _≤_, _<_}
-use native.Mathlib.Nat.{add-zero, add-suc, suc-add}
+use Prim.Native.Nat.{ℕ, suc, _+_, _≤_, _<_}
+use native.Mathlib.Nat.{add-zero}
 use native.Mathlib.Numerals.{add-one}
 use native.Mathlib.Omega.{arith}
 use lib.ListN.{length, getD, take, drop, set, take-append-drop, length-append, length-drop, length-set}
-use lib.Seq.{take-suc-set, append-snoc, drop-cons, getD-set-same, drop-set-lt, take-set-le, length-take-le, take-at, drop-at, drop-append-add, take-append-add, drop-drop}
+use lib.Seq.{take-suc-set, append-snoc, drop-cons, getD-set-same, drop-set-lt, take-set-le, length-take-le, take-at, drop-at, drop-drop}
 use Rattle.text.specs.Text.{put}
 
 pub put-nil : (l : List ℕ) (at : ℕ) → put l at [] ≡ l

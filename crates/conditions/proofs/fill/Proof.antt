@@ -5,7 +5,7 @@ use mathlib.Core.Path.{_≡_}
 use Rattle.rules.specs.Conditions.{meets}
 use Rattle.rules.specs.Outcomes.{starts}
 use Rattle.plan.specs.View.{headerView, activityView}
-use Rattle.conditions.specs.View.{scheduleView}
+use Rattle.placed.specs.View.{scheduleView}
 use Rattle.conditions.proofs.Picked.{Stage, stage-none, stage-more, stage-low, stage-all, count-is, count-few}
 use borrow.Author.Needs.{needs}
 use native.Mathlib.Omega.{arith}

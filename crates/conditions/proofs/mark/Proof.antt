@@ -7,9 +7,9 @@ use Rattle.rules.specs.MeetsW.{meetsW}
 use Rattle.rules.specs.MeetsD.{meetsD}
 use Rattle.rules.specs.MeetsH.{meetsH}
 use Rattle.plan.specs.View.{headerView, activityView}
-use Rattle.conditions.specs.View.{scheduleView}
+use Rattle.placed.specs.View.{scheduleView}
 use Rattle.conditions.specs.Ended.{allEnded}
-use Rattle.conditions.specs.Marked.{Room}
+use Rattle.placed.specs.Marked.{Room}
 use Rattle.conditions.proofs.Places.{bounded}
 use Rattle.conditions.proofs.Picked.{past, picked, room-for, count-end}
 use borrow.Author.Needs.{needs}

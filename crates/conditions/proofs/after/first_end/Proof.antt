@@ -3,7 +3,7 @@
 use Prim.Native.Nat.{_-_, _≤_}
 use mathlib.Core.Path.{_≡_, sym}
 use Rattle.conditions.specs.Ended.{firstEnd}
-use Rattle.conditions.specs.View.{entriesView, scheduleView}
+use Rattle.placed.specs.View.{entriesView, scheduleView}
 use Rattle.conditions.proofs.Ended.{first-more, first-none}
 use borrow.Author.Needs.{needs}
 use native.Mathlib.Omega.{arith}

@@ -5,9 +5,9 @@ use Prim.Native.Nat.{ℕ}
 use lib.Dec.{leb}
 use lib.ListN.{length}
 use borrow.Author.Needs.{length-unmapped}
-use Rattle.conditions.specs.View.{scheduleView}
+use Rattle.placed.specs.View.{scheduleView}
 use Rattle.conditions.proofs.Ended.{ready-is}
-use Rattle.conditions.proofs.StateMarks.{same-marked}
+use Rattle.placed.proofs.Marking.{same-marked}
 use borrow.Author.Needs.{needs}
 use native.Mathlib.Omega.{arith}
 use borrow.Author.Needs.{needs}

@@ -3,7 +3,7 @@
 use Prim.Native.Nat.{_-_, _≤_}
 use mathlib.Core.Path.{_≡_, sym}
 use Rattle.conditions.specs.Ended.{readyFrom}
-use Rattle.conditions.specs.View.{scheduleView}
+use Rattle.placed.specs.View.{scheduleView}
 use Rattle.conditions.proofs.Ended.{ready-more, ready-none}
 use borrow.Author.Needs.{needs}
 use native.Mathlib.Omega.{arith}

@@ -3,7 +3,7 @@
 use Prim.Native.Nat.{_-_, _<_, _≤_}
 use mathlib.Core.Path.{_≡_, sym, _∙_}
 use Rattle.plan.specs.View.{activityView}
-use Rattle.conditions.specs.View.{scheduleView}
+use Rattle.placed.specs.View.{scheduleView}
 use Rattle.conditions.specs.Quantity.{quantityOf}
 use Rattle.conditions.proofs.Loads.{Filled, filled-none, filled-more, filled-all}
 use native.Mathlib.Omega.{arith}

@@ -3,9 +3,9 @@
 use Prim.Native.Nat.{_+_, _-_, _≤_}
 use mathlib.Core.Path.{_≡_}
 use Rattle.conditions.specs.Clear.{room, clearFor, clearSince}
-use Rattle.conditions.specs.Marked.{Marked}
+use Rattle.placed.specs.Marked.{Marked}
 use Rattle.conditions.proofs.Clear.{since-first, since-next}
-use Rattle.conditions.proofs.StateMarks.{none-marked}
+use Rattle.placed.proofs.Marking.{none-marked}
 use Rattle.conditions.proofs.Marks.{marked-more, room-at}
 use native.Mathlib.Omega.{arith}
 use Rattle.conditions.proofs.load.mark_clear.Statement.{statement}

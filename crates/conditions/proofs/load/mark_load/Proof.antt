@@ -1,7 +1,7 @@
 -- `mark_load` meets its contract.
 -- Assumes nothing.
-use Rattle.conditions.proofs.Lists.{zeros}
-use Rattle.conditions.proofs.StateMarks.{same-marked}
+use Rattle.placed.proofs.Lists.{zeros}
+use Rattle.placed.proofs.Marking.{same-marked}
 use Rattle.conditions.proofs.Clear.{loaded-clear}
 use mathlib.Core.Path.{refl}
 use borrow.Author.Needs.{needs}

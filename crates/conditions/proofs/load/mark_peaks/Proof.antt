@@ -2,9 +2,9 @@
 -- Assumes nothing.
 use Rattle.rules.specs.MeetsP.{peaksKept, meetsP}
 use Rattle.plan.specs.View.{headerView, activityView}
-use Rattle.conditions.specs.View.{scheduleView}
+use Rattle.placed.specs.View.{scheduleView}
 use Rattle.conditions.specs.Quantity.{quantityOf}
-use Rattle.conditions.proofs.StateMarks.{same-marked}
+use Rattle.placed.proofs.Marking.{same-marked}
 use Rattle.conditions.proofs.Places.{starts-end, load-ready}
 use Rattle.conditions.proofs.Clear.{load-is}
 use borrow.Author.Needs.{needs}

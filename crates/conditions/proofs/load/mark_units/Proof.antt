@@ -1,8 +1,8 @@
 -- `mark_units` meets its contract: U is a limit of 0 on those that share a unit.
 -- Assumes nothing.
 use Rattle.plan.specs.View.{headerView, activityView}
-use Rattle.conditions.specs.View.{scheduleView}
-use Rattle.conditions.proofs.StateMarks.{same-marked}
+use Rattle.placed.specs.View.{scheduleView}
+use Rattle.placed.proofs.Marking.{same-marked}
 use Rattle.conditions.proofs.Places.{starts-end, load-ready}
 use Rattle.conditions.proofs.Clear.{units-is}
 use borrow.Author.Needs.{needs}

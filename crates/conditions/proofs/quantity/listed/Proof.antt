@@ -7,7 +7,7 @@ use lib.Dec.{eqb}
 use lib.ListN.{getD}
 use borrow.Author.Count.{below-none, below-more}
 use borrow.Author.Tests.{eq-eqb, ne-eqb}
-use Rattle.conditions.proofs.Lists.{any-at, any-none}
+use Rattle.placed.proofs.Lists.{any-at, any-none}
 use native.Mathlib.Omega.{arith}
 use Rattle.conditions.proofs.quantity.listed.Statement.{statement}
 use Rattle.conditions.proofs.quantity.listed.Tie as tie

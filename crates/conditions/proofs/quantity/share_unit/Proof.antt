@@ -9,7 +9,7 @@ use borrow.Author.Count.{below-none, below-more}
 use Rattle.rules.specs.Tests.{anyOf}
 use Rattle.plan.specs.View.{activityView}
 use Rattle.conditions.specs.Quantity.{shareUnit}
-use Rattle.conditions.proofs.Lists.{any-at, any-none}
+use Rattle.placed.proofs.Lists.{any-at, any-none}
 use borrow.Author.Needs.{needs, length-unmapped}
 use native.Mathlib.Omega.{arith}
 use Rattle.conditions.proofs.quantity.share_unit.Statement.{statement}

@@ -2,7 +2,7 @@
 -- Assumes nothing.
 use borrow.Author.Tests.{le-ltb}
 use Rattle.conditions.proofs.Picked.{past}
-use Rattle.conditions.specs.Marked.{bitOf}
+use Rattle.placed.specs.Marked.{bitOf}
 use mathlib.Core.Path.{refl}
 use native.Mathlib.Omega.{arith}
 use Rattle.conditions.proofs.sets.bit.Statement.{statement}

@@ -6,8 +6,8 @@ use mathlib.Core.Bool.{true, _||_, not}
 use borrow.Author.Tests.{not-true, not-false}
 use Rattle.rules.specs.Tests.{each}
 use Rattle.rules.specs.Conditions.{has}
-use Rattle.conditions.proofs.Lists.{each-more, each-fails}
-use Rattle.conditions.specs.Marked.{holdsSet}
+use Rattle.placed.proofs.Lists.{each-more, each-fails}
+use Rattle.placed.specs.Marked.{holdsSet}
 use borrow.Author.Needs.{needs}
 use native.Mathlib.Omega.{arith}
 use Rattle.conditions.proofs.sets.contains.Statement.{statement}

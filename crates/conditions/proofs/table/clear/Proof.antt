@@ -1,9 +1,7 @@
 -- `clear` meets its contract.
 -- Assumes nothing.
--- `clear` meets its contract.
--- Assumes nothing.
 use mathlib.Core.Path.{refl}
-use Rattle.conditions.proofs.Lists.{zeros}
+use Rattle.placed.proofs.Lists.{zeros}
 use Rattle.conditions.proofs.table.clear.Statement.{statement}
 use Rattle.conditions.proofs.table.clear.Tie as tie
 

@@ -3,8 +3,8 @@
 use Prim.Native.Nat.{_-_, _≤_}
 use mathlib.Core.Path.{_≡_, refl}
 use lib.Dec.{leb}
-use Rattle.conditions.specs.Marked.{Marked}
-use Rattle.conditions.proofs.StateMarks.{none-marked}
+use Rattle.placed.specs.Marked.{Marked}
+use Rattle.placed.proofs.Marking.{none-marked}
 use Rattle.conditions.proofs.Marks.{marked-more, room-at}
 use native.Mathlib.Omega.{arith}
 use Rattle.conditions.proofs.table.mark_from.Statement.{statement}

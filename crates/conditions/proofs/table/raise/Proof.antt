@@ -1,10 +1,6 @@
 -- `raise` meets its contract.
 -- Assumes nothing.
 use borrow.Author.Needs.{needs}
--- `raise` meets its contract.
--- Assumes nothing.
-use borrow.Author.Needs.{needs}
-use borrow.Author.Needs.{needs}
 use Rattle.conditions.proofs.table.raise.Statement.{statement}
 use Rattle.conditions.proofs.table.raise.Tie as tie
 
@@ -14,8 +10,8 @@ mul-table c = search needs
 slice-read-table : tie.Need-slice-read-table
 slice-read-table c = search needs
 
-bit-if-requires : tie.Need-bit-if-requires
-bit-if-requires c κs = search needs
+mark-if-requires : tie.Need-mark-if-requires
+mark-if-requires c κs = search needs
 
 add-table : tie.Need-add-table
 add-table c = search needs
@@ -38,7 +34,7 @@ raise-spec =
     (tie.spec
     mul-table
     slice-read-table
-    bit-if-requires
+    mark-if-requires
     add-table
     mul-table-2
     slice-write-table

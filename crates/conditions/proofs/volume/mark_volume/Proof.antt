@@ -4,8 +4,8 @@ use mathlib.Core.Path.{_∙_, ap}
 use Prim.Native.Nat.{ℕ}
 use lib.Dec.{leb}
 use Rattle.plan.specs.View.{headerView, activityView}
-use Rattle.conditions.specs.View.{scheduleView}
-use Rattle.conditions.proofs.StateMarks.{same-marked}
+use Rattle.placed.specs.View.{scheduleView}
+use Rattle.placed.proofs.Marking.{same-marked}
 use Rattle.conditions.proofs.Volumes.{allowed-from}
 use borrow.Author.Needs.{needs}
 use borrow.Author.Needs.{needs}

@@ -3,7 +3,7 @@
 use Prim.Native.Nat.{_-_, _*_, _≤_}
 use mathlib.Core.Path.{_≡_, sym}
 use Rattle.rules.specs.MeetsV.{totalVolume}
-use Rattle.conditions.specs.View.{entriesView, scheduleView}
+use Rattle.placed.specs.View.{entriesView, scheduleView}
 use Rattle.conditions.proofs.Volumes.{volume-more, volume-none}
 use native.Mathlib.Omega.{arith}
 use Rattle.conditions.proofs.volume.total_volume.Statement.{statement}

@@ -7,8 +7,8 @@ use mathlib.Core.Path.{_≡_, refl}
 use Rattle.rules.specs.MeetsH.{meetsH}
 use Rattle.rules.specs.Warmup.{warmup, warmupAt}
 use Rattle.plan.specs.View.{headerView, activityView}
-use Rattle.conditions.specs.Marked.{Marked}
-use Rattle.conditions.proofs.StateMarks.{none-marked, same-marked}
+use Rattle.placed.specs.Marked.{Marked}
+use Rattle.placed.proofs.Marking.{none-marked, same-marked}
 use Rattle.conditions.proofs.Marks.{marked-more, room-at}
 use borrow.Author.Needs.{needs}
 use native.Mathlib.Omega.{arith}

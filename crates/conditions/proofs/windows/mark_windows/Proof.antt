@@ -5,8 +5,8 @@ use mathlib.Core.Path.{_≡_}
 use lib.ListN.{length, take}
 use Rattle.rules.specs.MeetsW.{allowed}
 use Rattle.plan.specs.View.{windowsView, activityView}
-use Rattle.conditions.specs.Marked.{Marked}
-use Rattle.conditions.proofs.StateMarks.{none-marked}
+use Rattle.placed.specs.Marked.{Marked}
+use Rattle.placed.proofs.Marking.{none-marked}
 use Rattle.conditions.proofs.Marks.{marked-more, room-at}
 use borrow.Author.Needs.{needs, length-unmapped}
 use native.Mathlib.Omega.{arith}

@@ -1,6 +1,6 @@
 -- `activity_line::read_activity` meets its contract: its three groups of fields, one after the other.
 -- Assumes nothing.
-use mathlib.Core.Path.{_≡_, refl, sym, ap, _∙_}
+use mathlib.Core.Path.{sym, _∙_}
 use borrow.Author.Needs.{needs}
 use Rattle.rules.specs.ActivityLine.{activityOf}
 use Rattle.plan.specs.View.{headerView, activityView}

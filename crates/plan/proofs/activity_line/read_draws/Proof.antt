@@ -1,6 +1,6 @@
 -- `activity_line::read_draws` meets its contract: field by field, what was read goes on.
 -- Assumes nothing.
-use mathlib.Core.Path.{_≡_, refl, sym, _∙_}
+use mathlib.Core.Path.{_∙_}
 use borrow.Author.Needs.{needs}
 use Rattle.plan.specs.Cursor.{drawsThen}
 use Rattle.plan.proofs.Unless.{then}

@@ -1,6 +1,6 @@
 -- `activity_line::read_lists` meets its contract: field by field, what was read goes on.
 -- Assumes nothing.
-use mathlib.Core.Path.{_≡_, refl, sym, ap, _∙_}
+use mathlib.Core.Path.{_∙_}
 use native.Mathlib.Omega.{arith}
 use borrow.Author.Needs.{needs}
 use Rattle.plan.specs.Cursor.{listsThen}

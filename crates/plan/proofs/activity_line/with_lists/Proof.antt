@@ -1,6 +1,5 @@
 -- `activity_line::with_lists` meets its contract.
 -- Assumes nothing.
-use mathlib.Core.Path.{_≡_}
 use borrow.Author.Needs.{needs}
 use Rattle.plan.specs.View.{activityView}
 use Rattle.plan.proofs.Lists.{windows-front, settings-front}

@@ -1,11 +1,10 @@
 -- `after::all_among` meets its contract: what is left of the ids gives the answer.
 -- Assumes nothing.
 use Prim.Native.Nat.{_-_, _≤_}
-use mathlib.Core.Path.{_≡_, refl, sym, ap, _∙_}
+use mathlib.Core.Path.{_≡_, refl, sym, _∙_}
 use native.Mathlib.Omega.{arith}
-use borrow.Author.Needs.{needs}
 use borrow.Author.Tests.{not-true, not-false}
-use lib.ListN.{length, take, drop}
+use lib.ListN.{take, drop}
 use Rattle.rules.specs.Tests.{every}
 use Rattle.plan.specs.Collected.{amongIds}
 use Rattle.plan.proofs.Places.{every-hit, every-miss, every-end}

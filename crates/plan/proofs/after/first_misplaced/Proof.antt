@@ -1,14 +1,14 @@
 -- `after::first_misplaced` meets its contract: the places that are left give the answer.
 -- Assumes nothing.
-use Prim.Native.Nat.{_+_, _-_, _≤_, _<_}
-use mathlib.Core.Path.{_≡_, refl, sym, ap, _∙_}
+use Prim.Native.Nat.{_+_, _-_, _≤_}
+use mathlib.Core.Path.{_≡_, sym, _∙_}
 use mathlib.Core.List.{[], map}
 use native.Mathlib.Omega.{arith}
 use borrow.Author.Needs.{needs}
 use borrow.Author.Tests.{not-true, not-false}
 use lib.ListN.{length, take, drop}
 use Rattle.rules.specs.Reading.{misplaced}
-use Rattle.plan.specs.View.{activityView, noStruct}
+use Rattle.plan.specs.View.{activityView}
 use Rattle.plan.proofs.Ordering.{sized-at}
 use Rattle.plan.proofs.Places.{before, place-first, place-on, place-hit, place-end}
 use Rattle.plan.proofs.after.first_misplaced.Statement.{statement}

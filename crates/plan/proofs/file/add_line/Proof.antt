@@ -1,11 +1,9 @@
 -- `file::add_line` meets its contract: check by check, the definition goes the same way.
 -- Assumes nothing.
-use Prim.Native.Nat.{_≤_, _<_}
-use mathlib.Core.Path.{_≡_, refl, sym, ap, _∙_}
+use mathlib.Core.Path.{sym, _∙_}
 use native.Mathlib.Omega.{arith}
 use borrow.Author.Needs.{needs}
 use borrow.Author.Tests.{not-true, not-false}
-use lib.ListN.{length}
 use Rattle.rules.specs.Bytes.{bytes}
 use Rattle.plan.specs.View.{headerView, activityView}
 use Rattle.plan.proofs.Unless.{unless-value, unless-fault}

@@ -1,15 +1,15 @@
 -- `file::read_activities` meets its contract: what was read and the lines that are left give the answer.
 -- Assumes nothing.
-use Prim.Native.Nat.{_+_, _-_, _≤_, _<_}
-use mathlib.Core.Path.{_≡_, refl, sym, ap, _∙_}
-use mathlib.Core.List.{[], _∷_}
+use Prim.Native.Nat.{_+_, _-_, _≤_}
+use mathlib.Core.Path.{_≡_, sym, ap, _∙_}
+use mathlib.Core.List.{[]}
 use native.Mathlib.Omega.{arith}
 use borrow.Author.Needs.{needs}
 use lib.ListN.{length, take, drop}
 use Rattle.rules.specs.Lines.{lines}
 use Rattle.rules.specs.Reading.{activityLines}
 use Rattle.plan.specs.View.{headerView}
-use Rattle.plan.specs.LinesView.{Collected, linesView, linesFrom}
+use Rattle.plan.specs.LinesView.{Collected, linesFrom}
 use Rattle.plan.proofs.Cutting.{lines-end, lines-next, lines-last, not-ended, line-ended, line-fields}
 use Rattle.plan.proofs.Lining.{from-done, from-stopped, from-none, from-refused, line-2, form-not}
 use Rattle.plan.proofs.file.read_activities.Statement.{statement}

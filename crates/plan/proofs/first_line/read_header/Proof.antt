@@ -1,6 +1,6 @@
 -- `first_line::read_header` meets its contract: field by field, what was read goes on.
 -- Assumes nothing.
-use mathlib.Core.Path.{_≡_, refl, sym, _∙_}
+use mathlib.Core.Path.{sym, _∙_}
 use borrow.Author.Needs.{needs}
 use Rattle.rules.specs.HeaderLine.{headerOf}
 use Rattle.plan.specs.View.{headerView}

@@ -3,7 +3,6 @@
 use Prim.Native.Nat.{_-_, _≤_}
 use mathlib.Core.Path.{_≡_, refl, sym, _∙_}
 use native.Mathlib.Omega.{arith}
-use borrow.Author.Needs.{needs}
 use lib.ListN.{take, drop}
 use Rattle.rules.specs.Tests.{anyOf}
 use Rattle.plan.specs.Collected.{isId}

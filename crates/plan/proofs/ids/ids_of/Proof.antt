@@ -1,11 +1,11 @@
 -- `ids::ids_of` meets its contract: the ids written are those of the activities passed.
 -- Assumes nothing.
 use Prim.Native.Nat.{_-_, _≤_}
-use mathlib.Core.Path.{_≡_, refl, sym, ap, _∙_}
-use mathlib.Core.List.{_∷_, [], _++_, map}
+use mathlib.Core.Path.{_≡_, refl, _∙_}
+use mathlib.Core.List.{map}
 use native.Mathlib.Omega.{arith}
 use borrow.Author.Needs.{needs}
-use lib.ListN.{length, take, drop, getD, length-set}
+use lib.ListN.{length, take, length-set}
 use Rattle.plan.specs.View.{noStruct}
 use Rattle.plan.specs.Collected.{idOf}
 use Rattle.plan.proofs.Fronts.{front-more, front-set, map-append}

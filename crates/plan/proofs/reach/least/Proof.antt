@@ -2,7 +2,6 @@
 -- Assumes nothing.
 use native.Mathlib.Omega.{arith}
 use borrow.Author.Tests.{le-leb, lt-leb}
-use borrow.Author.Needs.{needs}
 use Rattle.plan.proofs.reach.least.Statement.{statement}
 use Rattle.plan.proofs.reach.least.Tie as tie
 

@@ -2,7 +2,6 @@
 -- Assumes nothing.
 use Prim.Native.Nat.{_-_, _≤_}
 use borrow.Author.Needs.{needs}
-use lib.ListN.{length}
 use Rattle.reader.proofs.show.put_numbers.Statement.{statement}
 use Rattle.reader.proofs.show.put_numbers.Tie as tie
 

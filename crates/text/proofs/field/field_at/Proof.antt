@@ -1,11 +1,10 @@
 -- `field::field_at` meets its contract: at the loop's head, the fields from number j on are those of the rest of the line.
 -- Assumes nothing.
-use mathlib.Core.Path.{_≡_, refl, _∙_, sym, ap}
-use mathlib.Core.List.{[]}
-use Prim.Native.Nat.{_+_, _-_, _≤_, _<_}
+use mathlib.Core.Path.{_≡_, refl, _∙_, sym}
+use Prim.Native.Nat.{_-_, _≤_}
 use native.Mathlib.Omega.{arith}
 use borrow.Author.Needs.{needs}
-use lib.ListN.{length, drop, take, getD}
+use lib.ListN.{length, drop}
 use Rattle.rules.specs.Lines.{splitOn}
 use Rattle.text.proofs.Parts.{cut, parts-more, parts-last, part-at, parts-after, part-none}
 use Rattle.text.proofs.field.field_at.Statement.{statement}

@@ -1,10 +1,9 @@
 -- `field::field_count` meets its contract.
 -- Assumes nothing.
-use mathlib.Core.Path.{_≡_, refl, _∙_, sym, ap}
-use Prim.Native.Nat.{_+_, _-_, _≤_, _<_}
+use mathlib.Core.Path.{_≡_, ap}
+use Prim.Native.Nat.{_+_, _-_, _≤_}
 use native.Mathlib.Omega.{arith}
-use borrow.Author.Needs.{needs}
-use lib.ListN.{length, drop, take}
+use lib.ListN.{length, drop}
 use Rattle.rules.specs.Lines.{splitOn}
 use Rattle.text.proofs.Parts.{parts-more, parts-last}
 use Rattle.text.proofs.field.field_count.Statement.{statement}

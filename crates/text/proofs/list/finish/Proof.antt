@@ -1,6 +1,6 @@
 -- `list::finish` meets its contract.
 -- Assumes nothing.
-use mathlib.Core.Path.{_≡_, sym, _∙_}
+use mathlib.Core.Path.{sym, _∙_}
 use native.Mathlib.Omega.{arith}
 use borrow.Author.Needs.{needs}
 use Rattle.text.specs.Text.{kindOf, listView}

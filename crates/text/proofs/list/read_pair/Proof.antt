@@ -1,6 +1,6 @@
 -- `list::read_pair` meets its contract: each way out is one law.
 -- Assumes nothing.
-use mathlib.Core.Path.{_≡_, sym, _∙_}
+use mathlib.Core.Path.{sym, _∙_}
 use native.Mathlib.Omega.{arith}
 use borrow.Author.Needs.{needs}
 use Rattle.text.proofs.Pairs.{pair-none, pair-many, pair-bad1, pair-bad2, pair-good}

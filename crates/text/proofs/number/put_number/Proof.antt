@@ -1,10 +1,10 @@
 -- `number::put_number` meets its contract: the digits of y, put at `at`, give what is asked.
 -- Assumes nothing.
 use mathlib.Core.Path.{_≡_, refl, _∙_, sym, ap}
-use Prim.Native.Nat.{ℕ, _+_, _-_, _/_, _%_, _≤_, _<_}
+use Prim.Native.Nat.{_+_, _-_, _/_, _%_, _≤_}
 use native.Mathlib.Omega.{arith}
 use borrow.Author.Needs.{needs}
-use lib.ListN.{length, set, length-append, length-set}
+use lib.ListN.{length, length-append, length-set}
 use Rattle.text.specs.Text.{put}
 use Rattle.rules.specs.Number.{decimal}
 use Rattle.text.proofs.Put.{put-back, put-one}

@@ -2,7 +2,6 @@
 -- Assumes nothing.
 use borrow.Author.Needs.{needs}
 use borrow.Author.Tests.{le-leb, lt-leb, lt-ltb, le-ltb, eq-eqb, ne-eqb}
-use mathlib.Core.Path.{_≡_, refl, _∙_, sym}
 use mathlib.Core.Logic.{⊎-elim}
 use Rattle.text.specs.Text.{numberOf}
 use Rattle.rules.specs.Number.{isNumber, leadingZero, valueOf}

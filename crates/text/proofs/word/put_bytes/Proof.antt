@@ -1,12 +1,9 @@
 -- `word::put_bytes` meets its contract: what is left of src, put where o stands, gives what is asked.
 -- Assumes nothing.
 use mathlib.Core.Path.{_≡_, refl, _∙_, sym, ap}
-use Prim.Native.Nat.{ℕ, _+_, _-_, _≤_, _<_}
+use Prim.Native.Nat.{_+_, _-_, _≤_}
 use native.Mathlib.Omega.{arith}
-use native.Mathlib.Numerals.{add-one}
-use borrow.Author.Needs.{needs}
-use lib.ListN.{length, drop, getD, set, length-set, drop-of-length-le}
-use lib.Seq.{drop-cons}
+use lib.ListN.{length, drop, length-set, drop-of-length-le}
 use Rattle.text.specs.Text.{put}
 use Rattle.text.proofs.Put.{put-next, put-nil}
 use Rattle.text.proofs.word.put_bytes.Statement.{statement}

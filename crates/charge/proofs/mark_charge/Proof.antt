@@ -1,0 +1,53 @@
+-- `mark_charge` meets its contract: the draws of the placed are the definition's, so each trial is condition B.
+-- Assumes nothing.
+use mathlib.Core.Path.{refl, sym}
+use native.Mathlib.Omega.{arith}
+use native.Mathlib.Nat.{le-refl}
+use Rattle.plan.specs.View.{headerView}
+use Rattle.placed.specs.View.{scheduleView}
+use Rattle.placed.proofs.Marking.{same-marked}
+use Rattle.charge.proofs.ChargeDraws.{draws-few, zeros, meets-is}
+use borrow.Author.Needs.{needs}
+use Rattle.charge.proofs.mark_charge.Statement.{statement}
+use Rattle.charge.proofs.mark_charge.Tie as tie
+
+slice-aggregate-add-placed : tie.Need-slice-aggregate-add-placed
+slice-aggregate-add-placed c = refl
+
+add-placed-requires : tie.Need-add-placed-requires
+add-placed-requires c κs =
+    let s = c .before .before in
+    ((s .pre .0 .reached, s .pre .0 .few, refl), zeros 4096)
+
+slice-aggregate-mark-trials : tie.Need-slice-aggregate-mark-trials
+slice-aggregate-mark-trials c = sym (c .before .before .add-placed .kept .1 .1 .0)
+
+mark-trials-requires : tie.Need-mark-trials-requires
+unfolding headerView scheduleView
+mark-trials-requires c κs =
+    let p = c .before .before .before in
+    let s = p .before .before .before in
+    let r = s .pre .0 .reached in (
+      record { known = omega (arith, r .header .horizon, p .add-placed .kept); short = omega (arith, r .header .horizon); few = λ t. omega (arith, p .add-placed .ensures t, draws-few _ _ r _ t (le-refl _), s .pre .0 .few); first = r .header .first .1 },
+      (omega (arith, s .pre .1 .0, r .header .horizon), s .pre .1 .1),
+    )
+
+same-length : tie.Need-same-length
+same-length c = search needs
+
+returns : tie.Need-returns
+returns c =
+    let m = c .before .before in
+    let p = m .before .before .before .before in
+    same-marked _ _ _ _ _ _ (λ k l. meets-is _ _ _ _ (p .add-placed .ensures) k) (m .mark-trials .ensures)
+
+pub mark-charge-spec : {M : Type 1} → statement M
+mark-charge-spec =
+    tie.close
+    (tie.spec
+    slice-aggregate-add-placed
+    add-placed-requires
+    slice-aggregate-mark-trials
+    mark-trials-requires
+    same-length
+    returns)

@@ -1,0 +1,59 @@
+-- What the charge trial works on: the draw of one activity, the sum of draws at each tick, and the charges that they leave.
+use Prim.Native.Nat.{ℕ, zero, suc, _+_, _-_, _≤_}
+use mathlib.Core.Path.{_≡_}
+use mathlib.Core.Bool.{Bool, cond, _&&_}
+use mathlib.Core.List.{List}
+use lib.Dec.{leb, ltb}
+use lib.IntN.{ℤ, pos, _+ℤ_, _-ℤ_}
+use lib.ListN.{length, getD}
+use lib.Signed.{leZ}
+use Rattle.rules.specs.Tests.{each}
+use Rattle.rules.specs.Warmup.{warmupAt}
+use Rattle.rules.specs.MeetsB.{smaller}
+use Rattle.plan.specs.declared.Header.{Header as HeaderStruct}
+use Rattle.charge.specs.declared.OwnDraw.{OwnDraw}
+
+-- an activity of this duration, draw and warm at the start s
+abbrev pub ownDraw : HeaderStruct → ℕ → ℕ → ℕ → ℕ → OwnDraw
+ownDraw h s duration draw warm = record { heat = s - warmupAt (h .minute) s warm; start = s; end = s + duration; draw = draw; heater = h .heater }
+
+-- what it draws at tick t
+unfoldable pub drawOf : OwnDraw → ℕ → ℕ
+drawOf o t = cond (ltb t (o .start)) (cond (leb (o .heat) t) (o .heater) 0) (cond (ltb t (o .end)) (o .draw) 0)
+
+-- the draws of the placed, and one activity's more
+unfoldable pub drawWith : List ℕ → OwnDraw → ℕ → ℕ
+drawWith draws o t = getD draws t 0 + drawOf o t
+
+-- the charge after a tick, and at tick t
+unfoldable pub chargeNext : ℕ → ℕ → ℕ → ℤ → ℤ
+chargeNext capacity rate draw c = smaller (pos capacity) (c +ℤ pos rate -ℤ pos draw)
+
+unfoldable pub chargeBy : HeaderStruct → (ℕ → ℕ) → ℕ → ℤ
+chargeBy h draw zero = pos (h .first)
+chargeBy h draw (suc t) = chargeNext (h .capacity) (h .rate) (draw t) (chargeBy h draw t)
+
+-- the charge is at least the floor at each tick to the horizon, and at least the handover charge there
+unfoldable pub keptBy : HeaderStruct → (ℕ → ℕ) → Bool
+keptBy h draw = each (λ t. leZ (pos (h .floor)) (chargeBy h draw t)) (suc (h .horizon)) && leZ (pos (h .handover)) (chargeBy h draw (h .horizon))
+
+-- the same with an activity added at the start s
+unfoldable pub keptAt : HeaderStruct → List ℕ → ℕ → ℕ → ℕ → ℕ → Bool
+keptAt h draws duration draw warm s = keptBy h (drawWith draws (ownDraw h s duration draw warm))
+
+-- sums of draws with which the trial's charges fit
+pub record Drawing (draws : List ℕ) (h : HeaderStruct) : Type 0 where
+  pub known : h .horizon ≤ length draws
+  pub short : h .horizon ≤ 4096
+  pub few : (t : ℕ) → getD draws t 0 ≤ 128000000
+  pub first : h .first ≤ h .capacity
+
+-- a list of `room` elements, of which 0 to n are f 0 to f n
+pub record FilledBy {A : Type 0} (f : ℕ → A) (d : A) (n room : ℕ) (xs : List A) : Type 0 where
+  pub size : length xs ≡ room
+  pub at : (t : ℕ) → t ≤ n → getD xs t d ≡ f t
+
+-- the elements from `from` to before `to` are raised by `by`; the others remain
+pub record RaisedBetween (from to by : ℕ) (old new : List ℕ) : Type 0 where
+  pub size : length new ≡ length old
+  pub at : (t : ℕ) → getD new t 0 ≡ getD old t 0 + cond (leb from t && ltb t to) by 0

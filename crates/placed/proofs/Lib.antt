@@ -1,0 +1,3 @@
+pub mod Marking
+pub mod Entries
+pub mod Lists

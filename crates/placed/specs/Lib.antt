@@ -1,0 +1,3 @@
+pub mod View
+pub mod Ready
+pub mod Marked

@@ -1,0 +1,4 @@
+pub mod StateColumns
+pub mod StateLaws
+pub mod StateSettings
+pub mod StateMeets
