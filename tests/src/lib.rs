@@ -26,3 +26,4 @@ pub mod tally;
 // The stored corpus, and another planner.
 pub mod compare;
 pub mod corpus;
+pub mod readings;

@@ -5,6 +5,7 @@ use differential::check::check;
 use differential::compare::{difference, run};
 use differential::corpus;
 use differential::generator::{fixed, generate, Generated};
+use differential::readings::readings;
 use differential::tally::Tally;
 use std::io::{Read, Write};
 use std::panic::{catch_unwind, AssertUnwindSafe};
@@ -17,6 +18,7 @@ differential stored CORPUS FOLDER                the stored corpus: its answers 
 differential corpus CORPUS                       write the corpus anew
 differential answers                             answers to a corpus stream on standard input
 differential output                              what the program prints for a plan on standard input
+differential readings                            what is read of a stored set of files on standard input
 differential plan SEED                           the file made from a seed
 A file that shows a difference is saved in FOLDER.";
 
@@ -29,6 +31,7 @@ fn main() -> ExitCode {
         ["stored", corpus, folder] => check_corpus(Path::new(corpus), Path::new(folder)),
         ["corpus", folder] => write_corpus(Path::new(folder)),
         ["answers"] => print(corpus::answers(&input()).ok_or("the stream is malformed".to_string())),
+        ["readings"] => print(readings(&input()).ok_or("the set is malformed".to_string())),
         ["output"] => print(Ok(output(&input()))),
         ["plan", seed] => print(Ok(generate(number(seed)).bytes)),
         _ => Err(USE.to_string()),
