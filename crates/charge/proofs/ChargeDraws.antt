@@ -7,9 +7,10 @@ use mathlib.Core.Bool.{Bool, true, false, cond, _&&_}
 use mathlib.Core.List.{List, [], _∷_, List·Memᴰ, List·Memᴰ·head, List·Memᴰ·tail}
 use native.Mathlib.Decide.{ℕ-discrete}
 use native.Mathlib.Omega.{arith}
+use native.Mathlib.Nat.{le-refl}
 use lib.Dec.{leb, ltb}
 use lib.IntN.{pos, _+ℤ_, _-ℤ_}
-use lib.Signed.{leZ}
+use lib.Signed.{leZ, _≤ℤ_}
 use lib.ListN.{length, getD, set, replicate, length-set}
 use lib.Seq.{getD-set-same, getD-set-other}
 use borrow.Author.Tests.{leb-true, ltb-true, ltb-false, le-leb, lt-leb, lt-ltb, le-ltb}
@@ -20,6 +21,8 @@ use Rattle.rules.specs.Warmup.{warmup, warmupAt}
 use Rattle.rules.specs.WellFormed.{HeaderFormed, ActivityFormed}
 use Rattle.rules.specs.MeetsB.{heats, drawn, smaller, charge, chargeKept, meetsB}
 use Rattle.rules.proofs.Local.{bool-ext}
+use Rattle.rules.proofs.Tests.{each-at, and-left}
+use Rattle.rules.proofs.Signed.{signed}
 use Rattle.plan.specs.View.{headerView, activityView, noStruct}
 use Rattle.plan.specs.declared.Header.{Header as HeaderStruct}
 use Rattle.plan.specs.declared.Activity.{Activity as ActivityStruct}
@@ -27,7 +30,8 @@ use Rattle.placed.specs.declared.Schedule.{Schedule as ScheduleStruct}
 use Rattle.placed.specs.View.{entriesView, scheduleView}
 use Rattle.placed.specs.Ready.{Reached}
 use Rattle.charge.specs.declared.OwnDraw.{OwnDraw}
-use Rattle.charge.specs.Charge.{ownDraw, drawOf, drawWith, chargeNext, chargeBy, keptBy, keptAt, RaisedBetween}
+use Rattle.charge.specs.Charge.{ownDraw, drawOf, drawMore, drawWith, chargeNext, chargeBy, keptBy, keptAt, Drawing, RaisedBetween}
+use Rattle.charge.proofs.ChargeLaws.{le-true}
 use Rattle.placed.proofs.Entries.{entries-none, entries-more, entries-count, entry-all, formed-at, in-time}
 
 cond-most : (b : Bool) (x y : ℕ) → x ≤ y → cond b x 0 ≤ y
@@ -156,3 +160,23 @@ pub meets-is : (h : HeaderStruct) (placed : Schedule) (draws : List ℕ) (a : Ac
 unfolding keptAt meetsB drawn total drawWith headerView activityView
 meets-is h placed draws a e s =
     kept-is h (at (activityView a) s ∷ placed) _ (λ t. omega (arith, e t, own-is h a s t))
+
+-- the draws of the code's schedule
+module _ (h : HeaderStruct) (s : ScheduleStruct) (draws : List ℕ) (sums : (t : ℕ) → getD draws t 0 ≡ drawn (headerView h) (scheduleView s) t) where
+  same-draws : (t : ℕ) → drawMore draws 0 t ≡ drawn (headerView h) (scheduleView s) t
+  unfolding drawMore
+  same-draws t = omega (arith, sums t)
+
+  pub base-is : (t : ℕ) → chargeBy h (drawMore draws 0) t ≡ charge (headerView h) (scheduleView s) t
+  base-is = charge-is h (scheduleView s) (drawMore draws 0) same-draws
+
+  pub drawing : Reached (headerView h) (scheduleView s) → s .count ≤ 64 → length draws ≡ 4096 → Drawing draws h
+  unfolding headerView scheduleView
+  drawing r few size = record { known = omega (arith, r .header .horizon); short = omega (arith, r .header .horizon); few = λ t. omega (arith, sums t, draws-few h s r (s .count) t (le-refl _)); first = r .header .first .1; kept = kept-is h (scheduleView s) (drawMore draws 0) same-draws ∙ r .kept .charge }
+
+-- the last charge of a schedule that keeps its charge is a natural number
+pub last-kept : (h : Header) (placed : Schedule) → chargeKept h placed ≡ true → pos 0 ≤ℤ charge h placed (h .horizon)
+unfolding chargeKept
+last-kept h placed k =
+    let l = le-true (pos (h .floor)) (charge h placed (h .horizon)) (each-at (λ t. leZ (pos (h .floor)) (charge h placed t)) (suc (h .horizon)) (h .horizon) (and-left _ _ k) (omega arith)) in
+    omega signed

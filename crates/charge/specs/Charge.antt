@@ -1,7 +1,7 @@
 -- What the charge trial works on: the draw of one activity, the sum of draws at each tick, and the charges that they leave.
-use Prim.Native.Nat.{ℕ, zero, suc, _+_, _-_, _≤_}
+use Prim.Native.Nat.{ℕ, zero, suc, _+_, _-_, _<_, _≤_}
 use mathlib.Core.Path.{_≡_}
-use mathlib.Core.Bool.{Bool, cond, _&&_}
+use mathlib.Core.Bool.{Bool, true, cond, _&&_}
 use mathlib.Core.List.{List}
 use lib.Dec.{leb, ltb}
 use lib.IntN.{ℤ, pos, _+ℤ_, _-ℤ_}
@@ -21,7 +21,10 @@ ownDraw h s duration draw warm = record { heat = s - warmupAt (h .minute) s warm
 unfoldable pub drawOf : OwnDraw → ℕ → ℕ
 drawOf o t = cond (ltb t (o .start)) (cond (leb (o .heat) t) (o .heater) 0) (cond (ltb t (o .end)) (o .draw) 0)
 
--- the draws of the placed, and one activity's more
+-- the draws of the placed, and `by` more; and one activity's more
+unfoldable pub drawMore : List ℕ → ℕ → ℕ → ℕ
+drawMore draws by t = getD draws t 0 + by
+
 unfoldable pub drawWith : List ℕ → OwnDraw → ℕ → ℕ
 drawWith draws o t = getD draws t 0 + drawOf o t
 
@@ -41,12 +44,21 @@ keptBy h draw = each (λ t. leZ (pos (h .floor)) (chargeBy h draw t)) (suc (h .h
 unfoldable pub keptAt : HeaderStruct → List ℕ → ℕ → ℕ → ℕ → ℕ → Bool
 keptAt h draws duration draw warm s = keptBy h (drawWith draws (ownDraw h s duration draw warm))
 
--- sums of draws with which the trial's charges fit
+-- sums of draws of a schedule that keeps its charge, with which the trial's charges fit
 pub record Drawing (draws : List ℕ) (h : HeaderStruct) : Type 0 where
   pub known : h .horizon ≤ length draws
   pub short : h .horizon ≤ 4096
   pub few : (t : ℕ) → getD draws t 0 ≤ 128000000
   pub first : h .first ≤ h .capacity
+  pub kept : keptBy h (drawMore draws 0) ≡ true
+
+-- charges run on from tick `from` to tick `to`, each after the one before; all but the last are at least the floor
+pub record Ran (h : HeaderStruct) (draw : ℕ → ℕ) (from to : ℕ) (old new : List ℤ) : Type 0 where
+  pub size : length new ≡ length old
+  pub began : from ≤ to
+  pub first : getD new from (pos 0) ≡ getD old from (pos 0)
+  pub next : (t : ℕ) → from ≤ t → t < to → getD new (t + 1) (pos 0) ≡ chargeNext (h .capacity) (h .rate) (draw t) (getD new t (pos 0))
+  pub kept : (t : ℕ) → from ≤ t → t < to → leZ (pos (h .floor)) (getD new t (pos 0)) ≡ true
 
 -- a list of `room` elements, of which 0 to n are f 0 to f n
 pub record FilledBy {A : Type 0} (f : ℕ → A) (d : A) (n room : ℕ) (xs : List A) : Type 0 where

@@ -1,15 +1,16 @@
 // Condition B: the charge with the candidate added, by a trial over the ticks for each start.
 ghost use mathlib.Core.Path.{_≡_};
+ghost use mathlib.Core.Bool.{false};
 ghost use Prim.Native.Nat.{ℕ, _+_, _-_, _<_, _≤_};
 ghost use lib.IntN.{pos, negsuc};
 ghost use lib.ListN.{length, getD};
-ghost use lib.Signed.{_≤ℤ_};
-ghost use Rattle.rules.specs.MeetsB.{drawn, meetsB};
+ghost use lib.Signed.{_≤ℤ_, leZ};
+ghost use Rattle.rules.specs.MeetsB.{charge, drawn, meetsB};
 ghost use Rattle.plan.specs.View.{headerView, activityView};
 ghost use Rattle.placed.specs.View.{scheduleView};
 ghost use Rattle.placed.specs.Ready.{Reached, Ready};
 ghost use Rattle.placed.specs.Marked.{Marked};
-ghost use Rattle.charge.specs.Charge.{ownDraw, drawOf, drawWith, chargeNext, keptBy, keptAt, Drawing, RaisedBetween};
+ghost use Rattle.charge.specs.Charge.{ownDraw, drawOf, drawMore, drawWith, chargeNext, chargeBy, keptBy, keptAt, Drawing, Ran, RaisedBetween};
 use placed::Schedule;
 use placed::mark_if;
 use plan::Activity;
@@ -75,7 +76,7 @@ fn draw_with(draws: &[u32], own: OwnDraw, t: usize) -> u64
 
 // The same number in 64 bits.
 fn wide(x: u32) -> u64
-    ensures { λ r. ⌜ r ≡ x ⌝ }
+    ensures { λ r. ⌜ (r ≡ x) × (r < 4294967296) ⌝ }
 {
     x as u64
 }
@@ -89,6 +90,47 @@ fn step(c: i64, capacity: u32, rate: u32, draw: u64) -> i64
     let next = c + rate as i64 - draw as i64;
     let top = capacity as i64;
     if top <= next { top } else { next }
+}
+
+// Runs the charge on from tick `from` with `by` drawn beside the placed: to tick `to`, or to the first tick under the floor. Answers the tick reached.
+fn run_ticks(
+    draws: &[u32],
+    header: Header,
+    by: u32,
+    from: usize,
+    to: usize,
+    charge: &mut [i64],
+) -> usize
+    requires { ⌜ (from ≤ to) × (to ≤ length (now draws)) × (to < length (now charge)) ⌝ }
+    requires { ⌜ getD (now charge) from (pos 0) ≤ℤ pos (header .capacity) ⌝ }
+    ensures { λ r. ⌜ (r ≤ to) × Ran header (drawMore (now (draws .entry)) by) from r (now (charge .entry)) (now (charge .exit)) ⌝ }
+    ensures { λ r. ⌜ (r < to → leZ (pos (header .floor)) (getD (now (charge .exit)) r (pos 0)) ≡ false) ⌝ }
+{
+    let floor = header.floor as i64;
+    let more = by as u64;
+    let mut t = from;
+    let mut c = charge[t];
+    'ticks: while t < to {
+        if floor <= c {
+            let d = wide(draws[t]) + more;
+            c = step(c, header.capacity, header.rate, d);
+            t += 1;
+            charge[t] = c;
+        } else {
+            break 'ticks;
+        }
+    }
+    t
+}
+
+// Fills in the charge at each tick with the placed alone.
+fn fill_charges(draws: &[u32], header: Header, charge: &mut [i64])
+    requires { ⌜ Drawing (now draws) header × (length (now charge) ≡ 4097) ⌝ }
+    ensures { λ _. ⌜ ((t : ℕ) → t ≤ header .horizon → getD (now (charge .exit)) t (pos 0) ≡ chargeBy header (drawMore (now (draws .entry)) 0) t) ⌝ }
+{
+    let horizon = header.horizon as usize;
+    charge[0] = header.first as i64;
+    run_ticks(draws, header, 0, 0, horizon, charge);
 }
 
 // Whether the charge keeps to the floor and the handover with these draws: a trial, left at the first tick under the floor.
@@ -215,4 +257,18 @@ pub fn mark_charge(
         by,
         table,
     );
+}
+
+// The charge at the horizon with the placed alone; it is at least the floor.
+pub fn last_charge(header: Header, schedule: Schedule) -> u64
+    requires { ⌜ Reached (headerView header) (scheduleView schedule) × (schedule .count ≤ 64) ⌝ }
+    ensures { λ r. ⌜ pos r ≡ charge (headerView header) (scheduleView schedule) (header .horizon) ⌝ }
+{
+    let mut draws = [0u32; 4096];
+    add_placed(header, schedule, &mut draws);
+    let mut charge = [0i64; 4097];
+    fill_charges(&draws, header, &mut charge);
+    let horizon = header.horizon as usize;
+    let last = charge[horizon];
+    last as u64
 }

@@ -14,6 +14,7 @@ use plan::Header;
 pub use sets::bit;
 pub use sets::contains;
 pub use sets::letter;
+pub use volume::total_volume;
 ghost use mathlib.Core.Path.{_≡_};
 ghost use Prim.Native.Nat.{ℕ, _^_, _<_, _≤_};
 ghost use lib.ListN.{length, getD};

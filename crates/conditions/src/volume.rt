@@ -14,7 +14,7 @@ ghost use Rattle.placed.specs.Ready.{Bounded};
 ghost use Rattle.placed.specs.Marked.{Marked, Room};
 
 // The volumes of the placed, summed.
-fn total_volume(schedule: Schedule) -> u64
+pub fn total_volume(schedule: Schedule) -> u64
     requires { ⌜ Bounded schedule ⌝ }
     ensures { λ r. ⌜ (r ≡ totalVolume (scheduleView schedule)) × (r ≤ 274877906944) ⌝ }
 {

@@ -15,7 +15,7 @@ use Rattle.rules.specs.Order.{order}
 use Rattle.rules.specs.HeaderLine.{headerOf}
 use Rattle.rules.specs.Reading.{accepted, no, formed, onLine, misplaced, outOfReach, judged, afterLines, planLines, activityLines, reading}
 use Rattle.text.specs.Text.{indexOf}
-use Rattle.plan.specs.View.{activityView, noStruct, Sized}
+use Rattle.plan.specs.View.{activityView, noStruct, PlanSized}
 use Rattle.plan.specs.Reading.{inOrder, readingView}
 use Rattle.plan.specs.Collected.{orderStruct, lineAmong, foundAt}
 use Rattle.plan.specs.LinesView.{Collected, activitiesView, linesView}
@@ -32,8 +32,8 @@ pub view-refused : (r : ReadingStruct) (number line : ℕ) → (number ≡ 0 →
 unfolding readingView
 view-refused r number line x e f = rw (e, ne-eqb _ _ x, f)
 
-pub none-sized : (r : ReadingStruct) → r .plan .count ≡ 0 → (r .plan .count ≤ 64) × ((k : ℕ) → k < r .plan .count → Sized (getD (r .plan .activities) k noStruct))
-none-sized r e = (omega arith, λ k h. absurd (omega arith))
+pub none-sized : (r : ReadingStruct) → r .plan .count ≡ 0 → length (r .plan .activities) ≡ 64 → PlanSized (r .plan)
+none-sized r e n = record { few = omega arith; long = n; sizes = λ k h. absurd (omega arith) }
 
 -- the lines t, read behind the header h
 module _ (h : Header) (t : Lines) where

@@ -1,7 +1,8 @@
 -- The specification's value of each struct of the code.
-use Prim.Native.Nat.{ℕ, _≤_}
+use Prim.Native.Nat.{ℕ, _<_, _≤_}
+use mathlib.Core.Path.{_≡_}
 use mathlib.Core.List.{List, [], _∷_, map}
-use lib.ListN.{take}
+use lib.ListN.{length, getD, take}
 use Rattle.rules.specs.Plan.{Header, Window, Setting, Activity, Plan}
 use Rattle.plan.specs.declared.Header.{Header as HeaderStruct}
 use Rattle.plan.specs.declared.Activity.{Activity as ActivityStruct}
@@ -88,6 +89,12 @@ pub record Sized (a : ActivityStruct) : Type 0 where
   pub units : a .«unit_count» ≤ 32
   pub needs : a .«need_count» ≤ 4
   pub sets : a .«set_count» ≤ 4
+
+-- the counts of a plan and of its activities are within their arrays
+pub record PlanSized (p : PlanStruct) : Type 0 where
+  pub few : p .count ≤ 64
+  pub long : length (p .activities) ≡ 64
+  pub sizes : (k : ℕ) → k < p .count → Sized (getD (p .activities) k noStruct)
 
 -- its activities stand by place
 unfoldable pub planView : PlanStruct → Plan

@@ -1,9 +1,8 @@
 // What is judged once all lines are read: `after` by place, and the handover charge.
 ghost use mathlib.Core.Path.{_≡_};
-ghost use Prim.Native.Nat.{ℕ, _≤_, _<_};
-ghost use lib.ListN.{getD};
+ghost use lib.ListN.{length};
 ghost use Rattle.rules.specs.Reading.{afterLines};
-ghost use Rattle.plan.specs.View.{headerView, noStruct, Sized};
+ghost use Rattle.plan.specs.View.{headerView, PlanSized};
 ghost use Rattle.plan.specs.Reading.{inOrder, readingView};
 ghost use Rattle.plan.specs.LinesView.{Collected, linesView};
 use crate::Header;
@@ -19,7 +18,7 @@ use crate::reach::out_of_reach;
 
 // A refusal, with no plan.
 pub fn refusal(number: u32, line: u32) -> Reading
-    ensures { λ r. ⌜ (r .number ≡ number) × (r .line ≡ line) × (r .plan .count ≡ 0) ⌝ }
+    ensures { λ r. ⌜ (r .number ≡ number) × (r .line ≡ line) × (r .plan .count ≡ 0) × (length (r .plan .activities) ≡ 64) ⌝ }
 {
     let a = no_activity();
     let activities = [a; 64];
@@ -48,7 +47,7 @@ pub fn refusal(number: u32, line: u32) -> Reading
 pub fn judge(h: Header, t: Lines) -> Reading
     requires { ⌜ Collected t ⌝ }
     ensures { λ r. ⌜ readingView r ≡ inOrder (afterLines (linesView (headerView h) t)) ⌝ }
-    ensures { λ r. ⌜ (r .plan .count ≤ 64) × ((k : ℕ) → k < r .plan .count → Sized (getD (r .plan .activities) k noStruct)) ⌝ }
+    ensures { λ r. ⌜ PlanSized (r .plan) ⌝ }
 {
     if t.number != 0 {
         return refusal(t.number, t.line);

@@ -1,10 +1,8 @@
 // A plan as the planner holds it, and its reading: what the file says, in the scheduling order, or its one refusal
 // (document 01, The plan file; When the planner says no).
 ghost use mathlib.Core.Path.{_≡_};
-ghost use Prim.Native.Nat.{ℕ, _≤_, _<_};
-ghost use lib.ListN.{getD};
 ghost use Rattle.rules.specs.Reading.{reading};
-ghost use Rattle.plan.specs.View.{Sized, noStruct};
+ghost use Rattle.plan.specs.View.{PlanSized};
 ghost use Rattle.plan.specs.Reading.{inOrder, readingView};
 
 mod activity_line;
@@ -83,7 +81,7 @@ pub struct Reading {
 // What the plan file s says.
 pub fn read(s: &[u8]) -> Reading
     ensures { λ r. ⌜ readingView r ≡ inOrder (reading (now (s .entry))) ⌝ }
-    ensures { λ r. ⌜ (r .plan .count ≤ 64) × ((k : ℕ) → k < r .plan .count → Sized (getD (r .plan .activities) k noStruct)) ⌝ }
+    ensures { λ r. ⌜ PlanSized (r .plan) ⌝ }
 {
     if 60000 < s.len() {
         return refusal(1, 0);

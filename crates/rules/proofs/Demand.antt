@@ -93,13 +93,16 @@ demand3 s p e =
     let F : WellFormed p × Reachable p = accepted-formed s p e in
     record {
       answers = outcome p;
-      few = F .0 .few;
+      right =
+          record {
+            few = F .0 .few;
+            right = λ k h. subst (λ ps. Right (p .header) ps (activityAt p k) (outcome p k)) (by-outcomes p k) (replied (p .header) (placed p k) (activityAt p k));
+            lineCount = rw (← report-by p) (line-count p);
+            line = λ k h. rw (← report-by p) (place-line p k h);
+            last = rw (← report-by p, ← by-outcomes p (length (p .activities))) (last-line p);
+            whole = rw (← by-outcomes p (length (p .activities))) (limits _ _ (placed-kept p (F .0) (F .1) (length (p .activities))) (placed-in-time p (length (p .activities))));
+          };
       called = λ k h. unfold outcomeCall outcomeOf in (rw (e, lt-leb _ _ h));
-      right = λ k h. subst (λ ps. Right (p .header) ps (activityAt p k) (outcome p k)) (by-outcomes p k) (replied (p .header) (placed p k) (activityAt p k));
       report = λ room. unfold reportCall reportOf in (rw (e, ← report-by p));
       printed = unfold output answerTo in (rw (e, ← report-by p));
-      lineCount = rw (← report-by p) (line-count p);
-      line = λ k h. rw (← report-by p) (place-line p k h);
-      last = rw (← report-by p, ← by-outcomes p (length (p .activities))) (last-line p);
-      whole = rw (← by-outcomes p (length (p .activities))) (limits _ _ (placed-kept p (F .0) (F .1) (length (p .activities))) (placed-in-time p (length (p .activities))));
     }

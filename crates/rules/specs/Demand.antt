@@ -91,22 +91,26 @@ linesBy p answers (suc k) = linesBy p answers k ++ outcomeLine (activityAt p k) 
 abbrev pub reportBy : Plan → (ℕ → Outcome) → List ℕ
 reportBy p answers = let n = length (p .activities) in linesBy p answers n ++ endLine (p .header) n (placedBy p answers n)
 
-pub record Demand3 (s : List ℕ) (p : Plan) : Type 0 where
-  -- the outcome at each place
-  pub answers : ℕ → Outcome
+-- the answers are right at every place of the plan, and so are the lines of the report that they give
+pub record RightAnswers (p : Plan) (answers : ℕ → Outcome) : Type 0 where
   pub few : length (p .activities) ≤ mostActivities
-  -- "the outcome call gives the answer that document 01 lays down"
-  pub called : (k : ℕ) → k < length (p .activities) → outcomeCall s k ≡ full (outcomeValues (answers k))
   pub right : (k : ℕ) → k < length (p .activities) → Right (p .header) (placedBy p answers k) (activityAt p k) (answers k)
-  -- every report written is the answers' own, by the report call and by the program
-  pub report : (room : ℕ) → reportCall s room ≡ filling room (reportBy p answers)
-  pub printed : output s ≡ reportBy p answers
   -- "and so does the line of that place in every report written": its lines are those of the places, then the end line
   pub lineCount : length (lines (reportBy p answers)) ≡ suc (length (p .activities))
   pub line : (k : ℕ) → k < length (p .activities) → getD (lines (reportBy p answers)) k [] ≡ outcomeLine (activityAt p k) (answers k)
   pub last : getD (lines (reportBy p answers)) (length (p .activities)) [] ≡ endLine (p .header) (length (p .activities)) (placedBy p answers (length (p .activities)))
   -- "The finished schedule breaks no limit of the plan at any tick"
   pub whole : Limits (p .header) (placedBy p answers (length (p .activities)))
+
+pub record Demand3 (s : List ℕ) (p : Plan) : Type 0 where
+  -- the outcome at each place
+  pub answers : ℕ → Outcome
+  pub right : RightAnswers p answers
+  -- "the outcome call gives the answer that document 01 lays down"
+  pub called : (k : ℕ) → k < length (p .activities) → outcomeCall s k ≡ full (outcomeValues (answers k))
+  -- every report written is the answers' own, by the report call and by the program
+  pub report : (room : ℕ) → reportCall s room ≡ filling room (reportBy p answers)
+  pub printed : output s ≡ reportBy p answers
 
 -- demand 3: "For every plan that document 01 accepts"
 abbrev pub DemandThree : Type 0

@@ -52,7 +52,7 @@ reached-more h ps a (Refused m) F R K = K
 
 module _ (p : PlanStruct) (G : Placeable p) where
   -- the activity at a place is the array's
-  activity-is : (k : ℕ) → k < p .count → activityAt (planView p) k ≡ activityView (getD (p .activities) k noStruct)
+  pub activity-is : (k : ℕ) → k < p .count → activityAt (planView p) k ≡ activityView (getD (p .activities) k noStruct)
   unfolding activityAt planView activityView
   activity-is k h =
       ap (λ (ys : List Activity). getD ys k noActivity) (G .ordered)
@@ -78,9 +78,15 @@ module _ (p : PlanStruct) (G : Placeable p) where
     pub roomy : Roomy s
     roomy = record { few = omega (arith, S .few, G .few); activities = S .activities; starts = S .starts }
 
-    pub placed-next : (o : Outcome) (r : ScheduleStruct) → o ≡ reply (headerView (p .header)) (scheduleView s) (activityView (getD (p .activities) k noStruct)) → Grown s (getD (p .activities) k noStruct) o r → PlacedTo p (k + 1) r
+    -- the answer beside those placed at earlier places is the outcome of the place
+    pub outcome-is : (o : Outcome) → o ≡ reply (headerView (p .header)) (scheduleView s) (activityView (getD (p .activities) k noStruct)) → o ≡ outcome (planView p) k
+    unfolding outcome planView
+    outcome-is o e = rw (activity-is k h, ← S .view) e
+
+    pub placed-next : (o : Outcome) (r : ScheduleStruct) → o ≡ outcome (planView p) k → Grown s (getD (p .activities) k noStruct) o r → PlacedTo p (k + 1) r
     unfolding placed planView
-    placed-next o r e W =
+    placed-next o r q W =
+        let e = q ∙ sym (outcome-is _ refl) in
         let a : Activity = activityView (getD (p .activities) k noStruct) in
         record {
           view = W .view ∙ rw (add-one, activity-is k h, ← S .view, e);
@@ -90,11 +96,6 @@ module _ (p : PlanStruct) (G : Placeable p) where
           sizes = W .sizes (S .sizes) (G .sizes k h);
           reached = rw (W .view, e) (reached-more (headerView (p .header)) (scheduleView s) a _ (G .each k h) (replied (headerView (p .header)) (scheduleView s) a) (S .reached));
         }
-
-    -- the answer beside those placed at earlier places is the outcome of the place
-    pub outcome-is : (o : Outcome) → o ≡ reply (headerView (p .header)) (scheduleView s) (activityView (getD (p .activities) k noStruct)) → o ≡ outcome (planView p) k
-    unfolding outcome planView
-    outcome-is o e = rw (activity-is k h, ← S .view) e
 
     -- and so is its table
     pub table-is : (table : List ℕ) → (let a = activityView (getD (p .activities) k noStruct) in Table (meets (headerView (p .header)) (scheduleView s) a) (starts (headerView (p .header)) a) table)

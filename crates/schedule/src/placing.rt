@@ -43,15 +43,36 @@ pub fn with_outcome(schedule: Schedule, candidate: Activity, outcome: Outcome) -
     next
 }
 
-// The schedule with the place k answered, after the places before it.
-fn place_next(plan: Plan, k: usize, schedule: Schedule) -> Schedule
+// No place answered yet.
+pub fn nothing_placed(plan: Plan) -> Schedule
+    requires { ⌜ Placeable plan ⌝ }
+    ensures { λ r. ⌜ PlacedTo plan 0 r ⌝ }
+{
+    let activities = plan.activities;
+    Schedule {
+        count: 0,
+        activities,
+        starts: [0u32; 64],
+    }
+}
+
+// The answer at place k, beside the schedule of the places before it.
+pub fn answer_beside(plan: Plan, k: usize, schedule: Schedule) -> Outcome
     requires { ⌜ Placeable plan × (k < plan .count) × PlacedTo plan k schedule ⌝ }
-    ensures { λ r. ⌜ PlacedTo plan (k + 1) r ⌝ }
+    ensures { λ r. ⌜ r ≡ outcome (planView plan) k ⌝ }
 {
     let header = plan.header;
     let candidate = plan.activities[k];
-    let outcome = reply_to(header, schedule, candidate);
-    with_outcome(schedule, candidate, outcome)
+    reply_to(header, schedule, candidate)
+}
+
+// The schedule of the places before k, with the answer at place k counted in.
+pub fn with_place(plan: Plan, k: usize, schedule: Schedule, answer: Outcome) -> Schedule
+    requires { ⌜ Placeable plan × (k < plan .count) × PlacedTo plan k schedule × (answer ≡ outcome (planView plan) k) ⌝ }
+    ensures { λ r. ⌜ PlacedTo plan (k + 1) r ⌝ }
+{
+    let candidate = plan.activities[k];
+    with_outcome(schedule, candidate, answer)
 }
 
 // The schedule of the first k places.
@@ -59,29 +80,22 @@ pub fn placed_before(plan: Plan, k: usize) -> Schedule
     requires { ⌜ Placeable plan × (k ≤ plan .count) ⌝ }
     ensures { λ r. ⌜ PlacedTo plan k r ⌝ }
 {
-    let activities = plan.activities;
-    let mut schedule = Schedule {
-        count: 0,
-        activities,
-        starts: [0u32; 64],
-    };
+    let mut schedule = nothing_placed(plan);
     let mut i = 0;
     while i < k {
-        schedule = place_next(plan, i, schedule);
+        let answer = answer_beside(plan, i, schedule);
+        schedule = with_place(plan, i, schedule, answer);
         i += 1;
     }
     schedule
 }
 
-// The answer at place k, beside those placed at earlier places.
+// The answer at place k.
 pub fn outcome_at(plan: Plan, k: usize) -> Outcome
     requires { ⌜ Placeable plan × (k < plan .count) ⌝ }
     ensures { λ r. ⌜ r ≡ outcome (planView plan) k ⌝ }
 {
-    let schedule = placed_before(plan, k);
-    let header = plan.header;
-    let candidate = plan.activities[k];
-    reply_to(header, schedule, candidate)
+    answer_beside(plan, k, placed_before(plan, k))
 }
 
 // The table of sets of the activity at place k, beside those placed at earlier places.

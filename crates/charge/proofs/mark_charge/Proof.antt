@@ -2,11 +2,9 @@
 -- Assumes nothing.
 use mathlib.Core.Path.{refl, sym}
 use native.Mathlib.Omega.{arith}
-use native.Mathlib.Nat.{le-refl}
 use Rattle.plan.specs.View.{headerView}
-use Rattle.placed.specs.View.{scheduleView}
 use Rattle.placed.proofs.Marking.{same-marked}
-use Rattle.charge.proofs.ChargeDraws.{draws-few, zeros, meets-is}
+use Rattle.charge.proofs.ChargeDraws.{zeros, drawing, meets-is}
 use borrow.Author.Needs.{needs}
 use Rattle.charge.proofs.mark_charge.Statement.{statement}
 use Rattle.charge.proofs.mark_charge.Tie as tie
@@ -23,14 +21,12 @@ slice-aggregate-mark-trials : tie.Need-slice-aggregate-mark-trials
 slice-aggregate-mark-trials c = sym (c .before .before .add-placed .kept .1 .1 .0)
 
 mark-trials-requires : tie.Need-mark-trials-requires
-unfolding headerView scheduleView
+unfolding headerView
 mark-trials-requires c κs =
     let p = c .before .before .before in
     let s = p .before .before .before in
-    let r = s .pre .0 .reached in (
-      record { known = omega (arith, r .header .horizon, p .add-placed .kept); short = omega (arith, r .header .horizon); few = λ t. omega (arith, p .add-placed .ensures t, draws-few _ _ r _ t (le-refl _), s .pre .0 .few); first = r .header .first .1 },
-      (omega (arith, s .pre .1 .0, r .header .horizon), s .pre .1 .1),
-    )
+    let r = s .pre .0 .reached in
+    (drawing _ _ _ (p .add-placed .ensures) r (s .pre .0 .few) (p .add-placed .kept .1 .1 .0), (omega (arith, s .pre .1 .0, r .header .horizon), s .pre .1 .1))
 
 same-length : tie.Need-same-length
 same-length c = search needs

@@ -18,7 +18,7 @@ returns : tie.Need-returns
 returns c =
     let r = c .refusal .ensures in
     let a = c .before .before .before .args in
-    (view-refused (c .refusal .result) _ _ (c .before .if1 .taken) (r .0) (r .1) ∙ sym (judge-stopped (headerView (a .h)) (a .t) (c .before .if1 .taken)), none-sized (c .refusal .result) (r .2))
+    (view-refused (c .refusal .result) _ _ (c .before .if1 .taken) (r .0) (r .1) ∙ sym (judge-stopped (headerView (a .h)) (a .t) (c .before .if1 .taken)), none-sized (c .refusal .result) (r .2) (r .3))
 
 ordered-requires : tie.Need-ordered-requires
 ordered-requires c κs = search needs
@@ -63,7 +63,7 @@ returns-2 c =
     let a = z .before .before .args in
     let g = z .before .before .pre in
     let r = c .refusal2 .ensures in
-    (view-refused (c .refusal2 .result) 7 _ (λ e. omega arith) (r .0) (r .1 ∙ q .line-of .ensures) ∙ sym (judge-7 (headerView (a .h)) (a .t) (z .if1 .left) (o .ordered .result) (o .ordered .ensures) (m .first-misplaced .result) (m .first-misplaced .ensures) g (x .if2 .taken)), none-sized (c .refusal2 .result) (r .2))
+    (view-refused (c .refusal2 .result) 7 _ (λ e. omega arith) (r .0) (r .1 ∙ q .line-of .ensures) ∙ sym (judge-7 (headerView (a .h)) (a .t) (z .if1 .left) (o .ordered .result) (o .ordered .ensures) (m .first-misplaced .result) (m .first-misplaced .ensures) g (x .if2 .taken)), none-sized (c .refusal2 .result) (r .2) (r .3))
 
 out-of-reach-requires : tie.Need-out-of-reach-requires
 out-of-reach-requires c κs = search needs
@@ -80,7 +80,7 @@ returns-3 c =
     let z = o .before .before in
     let a = z .before .before .args in
     let r = c .refusal3 .ensures in
-    (view-refused (c .refusal3 .result) 9 0 (λ e. omega arith) (r .0) (r .1) ∙ sym (judge-9 (headerView (a .h)) (a .t) (z .if1 .left) (o .ordered .result) (o .ordered .ensures) (m .first-misplaced .result) (m .first-misplaced .ensures) (x .if2 .left) (sym (q .out-of-reach .ensures) ∙ c .before .if3 .taken)), none-sized (c .refusal3 .result) (r .2))
+    (view-refused (c .refusal3 .result) 9 0 (λ e. omega arith) (r .0) (r .1) ∙ sym (judge-9 (headerView (a .h)) (a .t) (z .if1 .left) (o .ordered .result) (o .ordered .ensures) (m .first-misplaced .result) (m .first-misplaced .ensures) (x .if2 .left) (sym (q .out-of-reach .ensures) ∙ c .before .if3 .taken)), none-sized (c .refusal3 .result) (r .2) (r .3))
 
 returns-4 : tie.Need-returns-4
 unfolding readingView planView
@@ -93,7 +93,7 @@ returns-4 c =
     let a = z .before .before .args in
     let g = z .before .before .pre in
     let n : length (o .ordered .result) ≡ 64 = search needs in
-    (sym (judge-accepted (headerView (a .h)) (a .t) (z .if1 .left) (o .ordered .result) (o .ordered .ensures) (m .first-misplaced .result) (m .first-misplaced .ensures) (x .if2 .left) (sym (q .out-of-reach .ensures) ∙ c .if3 .left)), (g .small, λ k l. sized-at (o .ordered .result) (a .t .count) k (rw (o .ordered .ensures) (sized-order _ (g .sized))) l (omega (arith, g .small))))
+    (sym (judge-accepted (headerView (a .h)) (a .t) (z .if1 .left) (o .ordered .result) (o .ordered .ensures) (m .first-misplaced .result) (m .first-misplaced .ensures) (x .if2 .left) (sym (q .out-of-reach .ensures) ∙ c .if3 .left)), record { few = g .small; long = n; sizes = λ k l. sized-at (o .ordered .result) (a .t .count) k (rw (o .ordered .ensures) (sized-order _ (g .sized))) l (omega (arith, g .small)) })
 
 pub judge-spec : {M : Type 1} → statement M
 judge-spec =

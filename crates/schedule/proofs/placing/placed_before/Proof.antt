@@ -1,10 +1,9 @@
 -- `placed_before` meets its contract: the schedule is that of the places passed.
 -- Assumes nothing.
-use mathlib.Core.Path.{_≡_, refl}
+use mathlib.Core.Path.{_≡_}
 use Prim.Native.Nat.{ℕ, _-_, _≤_}
 use native.Mathlib.Omega.{arith}
 use Rattle.schedule.specs.Places.{PlacedTo}
-use Rattle.schedule.proofs.PlaceByPlace.{placed-none}
 use Rattle.schedule.proofs.placing.placed_before.Statement.{statement}
 use Rattle.schedule.proofs.placing.placed_before.Tie as tie
 
@@ -15,10 +14,16 @@ abbrev μ-loop : tie.MeasureT-loop
 μ-loop plan k schedule₀ i₀ schedule i = k - i
 
 loop-holds : tie.Need-loop-holds Inv-loop μ-loop
-loop-holds c = (omega arith, placed-none _ (c .before .pre .0) _ refl)
+loop-holds c = (omega arith, c .nothing-placed .ensures)
 
-place-next-requires : tie.Need-place-next-requires Inv-loop μ-loop
-place-next-requires c κs = let start = c .before .before .before in (start .pre .0, omega (arith, start .pre .1), c .before .loop .inv .1)
+nothing-placed-requires : tie.Need-nothing-placed-requires Inv-loop μ-loop
+nothing-placed-requires c κs = c .pre .0
+
+answer-beside-requires : tie.Need-answer-beside-requires Inv-loop μ-loop
+answer-beside-requires c κs = let start = c .before .before .before in (start .pre .0, omega (arith, start .pre .1), c .before .loop .inv .1)
+
+with-place-requires : tie.Need-with-place-requires Inv-loop μ-loop
+with-place-requires c κs = let start = c .before .before .before .before in (start .pre .0, omega (arith, start .pre .1), c .before .before .loop .inv .1, c .answer-beside .ensures)
 
 add-i : tie.Need-add-i Inv-loop μ-loop
 add-i c = omega arith
@@ -27,7 +32,7 @@ loop-less : tie.Need-loop-less Inv-loop μ-loop
 loop-less c = omega arith
 
 loop-again : tie.Need-loop-again Inv-loop μ-loop
-loop-again c = (omega arith, c .place-next .ensures)
+loop-again c = (omega arith, c .with-place .ensures)
 
 returns : tie.Need-returns Inv-loop μ-loop
 returns c = let e : c .before .before .before .args .k ≡ c .before .loop .i = omega arith in rw e (c .before .loop .inv .1)
@@ -35,4 +40,4 @@ returns c = let e : c .before .before .before .args .k ≡ c .before .loop .i = 
 pub placed-before-spec : {M : Type 1} → statement M
 placed-before-spec =
     tie.close
-    (tie.spec Inv-loop μ-loop loop-holds place-next-requires add-i loop-less loop-again returns)
+    (tie.spec Inv-loop μ-loop nothing-placed-requires loop-holds answer-beside-requires with-place-requires add-i loop-less loop-again returns)

@@ -1,0 +1,58 @@
+-- What the calls return for every byte string meets demand 3.
+-- Assumes nothing.
+use Prim.Native.Nat.{ℕ, _<_, _≤_}
+use mathlib.Core.Path.{_≡_, refl, sym, _∙_, ap}
+use mathlib.Core.List.{List, [], _∷_}
+use native.Mathlib.Omega.{arith}
+use lib.ListN.{length}
+use borrow.Author.Tests.{le-leb}
+use Rattle.rules.specs.Plan.{Plan}
+use Rattle.rules.specs.Reading.{Reading, accepted, refused, reading}
+use Rattle.rules.specs.Report.{noLine, answerTo, output}
+use Rattle.rules.specs.Calls.{refusal, full, outcomeValues, outcomeTerms, countTerms, Filled, sliceAfter, refusing, filling, outcomeOf, outcomeCall, reportOf, reportCall}
+use Rattle.rules.specs.Demand.{reportBy, Demand3}
+use Rattle.rules.specs.declared.Refusal.{Refusal}
+use Rattle.rules.specs.declared.OutcomeAnswer.{OutcomeAnswer}
+use Rattle.rules.specs.declared.OutcomeAnswer.the-variants.{Answer, No}
+use Rattle.rules.specs.declared.CountAnswer.{CountAnswer}
+use Rattle.rules.specs.declared.CountAnswer.the-variants.{Count, No as CountNo}
+use Rattle.rules.proofs.Demand.{demand3}
+use Rattle.rules.proofs.Terms.{outcome-terms-differ, count-terms-differ}
+use Rattle.calls.specs.Called.{OutcomeCalled, SliceFilled, ReportCalled, OutputCalled}
+use Rattle.calls.specs.Promise.{no, Answered, Refused, Promise}
+use Rattle.calls.proofs.Running.{too-long, fitting}
+
+-- a slice filled with a result or left as it was, by what the call's definition says
+filled-with : (f : Filled ℕ) (xs lent after : List ℕ) (r : CountAnswer) → SliceFilled f lent r after → f ≡ record { terms = full (length xs ∷ []); written = xs } → (r ≡ Count (length xs)) × (after ≡ sliceAfter xs lent)
+unfolding countTerms
+filled-with f xs lent after r F e = (count-terms-differ r (Count (length xs)) (F .answer ∙ ap (λ g. g .terms) e), F .slice ∙ ap (λ g. sliceAfter (g .written) lent) e)
+
+left-alone : (f : Filled ℕ) (q : Refusal) (lent after : List ℕ) (r : CountAnswer) → SliceFilled f lent r after → f ≡ refusing (q .number) (q .line) → (r ≡ CountNo q) × (after ≡ lent)
+unfolding countTerms sliceAfter
+left-alone f q lent after r F e = (count-terms-differ r (CountNo q) (F .answer ∙ ap (λ g. g .terms) e), F .slice ∙ ap (λ g. sliceAfter (g .written) lent) e)
+
+answered : (s : List ℕ) (p : Plan) → reading s ≡ accepted p → Answered s p
+unfolding outcomeTerms outcomeCall outcomeOf
+answered s p e =
+    let D : Demand3 s p = demand3 s p e in
+    record {
+      answers = D .answers;
+      right = D .right;
+      outcome = λ k r a h. outcome-terms-differ r (Answer (D .answers k)) (a ∙ D .called k h);
+      beyond = λ k r a h. outcome-terms-differ r (No (no 11)) (a ∙ rw (e, le-leb _ _ h));
+      report = λ lent after r F h. filled-with _ _ lent after r F (D .report (length lent) ∙ fitting _ _ h);
+      short = λ lent after r F h. left-alone _ (no 10) lent after r F (D .report (length lent) ∙ too-long _ _ h);
+      printed = λ lent after n F. (F .answer ∙ ap length (D .printed), F .slice ∙ ap (λ w. sliceAfter w lent) (D .printed));
+    }
+
+refused-all : (s : List ℕ) (q : Refusal) → reading s ≡ refused q → Refused s q
+unfolding outcomeTerms outcomeCall outcomeOf reportCall reportOf output answerTo
+refused-all s q e =
+    record {
+      outcome = λ k r a. outcome-terms-differ r (No q) (a ∙ rw e);
+      report = λ lent after r F. left-alone _ q lent after r F (rw e);
+      printed = λ lent after n F. (F .answer ∙ rw e, F .slice ∙ rw e);
+    }
+
+pub promise : Promise
+promise s = (answered s, refused-all s)

@@ -1,0 +1,4 @@
+pub mod Called
+pub mod Promise
+-- For proofs alone.
+pub mod Read

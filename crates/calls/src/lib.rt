@@ -1,0 +1,117 @@
+// The planner's calls on a plan's bytes (document 01, Calls): the public library.
+ghost use mathlib.Core.Path.{_≡_};
+ghost use Prim.Native.Nat.{_<_, _≤_, min};
+ghost use lib.ListN.{length};
+ghost use Rattle.rules.specs.Calls.{countTerms, refusal, filling, runs};
+ghost use Rattle.plan.specs.View.{planView};
+ghost use Rattle.rules.specs.Runs.{runsFrom};
+ghost use Rattle.schedule.specs.Places.{Placeable};
+ghost use Rattle.schedule.specs.Search.{meetsIn};
+ghost use Rattle.calls.specs.Read.{ReadAs};
+ghost use Rattle.calls.specs.Called.{OutcomeCalled, ColumnsFilled, StartsCalled};
+use plan::Plan;
+use plan::Reading;
+use rules::CountAnswer;
+use rules::OutcomeAnswer;
+use rules::Refusal;
+
+// A refusal of the call itself.
+fn refuse(number: u32) -> CountAnswer
+    ensures { λ r. ⌜ countTerms r ≡ refusal number 0 ⌝ }
+{
+    CountAnswer::No(Refusal { number, line: 0 })
+}
+
+// What the plan's bytes say.
+fn read(bytes: &[u8]) -> Reading
+    ensures { λ r. ⌜ ReadAs (now (bytes .entry)) r ⌝ }
+{
+    plan::read(bytes)
+}
+
+// The outcome of the activity at a place: placed with its start, or refused with its letters.
+pub fn outcome(bytes: &[u8], place: usize) -> OutcomeAnswer
+    ensures { λ r. ⌜ OutcomeCalled (now (bytes .entry)) place r ⌝ }
+{
+    let reading = read(bytes);
+    if reading.number != 0 {
+        let refusal = Refusal {
+            number: reading.number,
+            line: reading.line,
+        };
+        return OutcomeAnswer::No(refusal);
+    }
+    let plan = reading.plan;
+    if plan.count <= place {
+        return OutcomeAnswer::No(Refusal {
+            number: 11,
+            line: 0,
+        });
+    }
+    OutcomeAnswer::Answer(schedule::placing::outcome_at(plan, place))
+}
+
+// Writes the runs of starts of a table that meet a set of conditions, and answers their count.
+fn write_runs(
+    table: &[u32; 4096],
+    count: u32,
+    set: u32,
+    firsts: &mut [u32],
+    lasts: &mut [u32],
+) -> CountAnswer
+    requires { ⌜ count ≤ 4096 ⌝ }
+    ensures { λ r. ⌜ ColumnsFilled (filling (min (length (now (firsts .entry))) (length (now (lasts .entry)))) (runsFrom (meetsIn (now (table .entry)) set) 0 count)) (now (firsts .entry)) (now (lasts .entry)) r (now (firsts .exit)) (now (lasts .exit)) ⌝ }
+{
+    let runs = schedule::runs::count_runs(table, count, set);
+    if firsts.len() < runs {
+        return refuse(10);
+    }
+    if lasts.len() < runs {
+        return refuse(10);
+    }
+    schedule::runs::write_column(table, count, set, runs, true, firsts);
+    schedule::runs::write_column(table, count, set, runs, false, lasts);
+    CountAnswer::Count(runs)
+}
+
+// Writes the runs of starts at a place that meet a set of conditions, and answers their count.
+fn runs_at(plan: Plan, place: usize, set: u32, firsts: &mut [u32], lasts: &mut [u32]) -> CountAnswer
+    requires { ⌜ Placeable plan × (place < plan .count) ⌝ }
+    ensures { λ r. ⌜ ColumnsFilled (filling (min (length (now (firsts .entry))) (length (now (lasts .entry)))) (runs (planView plan) place set)) (now (firsts .entry)) (now (lasts .entry)) r (now (firsts .exit)) (now (lasts .exit)) ⌝ }
+{
+    let table = schedule::placing::table_at(plan, place);
+    let activity = plan.activities[place];
+    let header = plan.header;
+    let count = header.horizon + 1 - activity.duration;
+    write_runs(&table, count, set, firsts, lasts)
+}
+
+// The runs of starts of the activity at a place that meet a set of conditions: the first start of each is written to
+// the front of `firsts`, the last to the front of `lasts`, and their count answered.
+pub fn starts(
+    bytes: &[u8],
+    place: usize,
+    set: u32,
+    firsts: &mut [u32],
+    lasts: &mut [u32],
+) -> CountAnswer
+    ensures { λ r. ⌜ StartsCalled (now (bytes .entry)) place set (now (firsts .entry)) (now (lasts .entry)) r (now (firsts .exit)) (now (lasts .exit)) ⌝ }
+{
+    let reading = read(bytes);
+    if reading.number != 0 {
+        let refusal = Refusal {
+            number: reading.number,
+            line: reading.line,
+        };
+        return CountAnswer::No(refusal);
+    }
+    let plan = reading.plan;
+    let count = plan.count;
+    if count <= place {
+        return refuse(11);
+    }
+    if 511 < set {
+        return refuse(12);
+    }
+    runs_at(plan, place, set, firsts, lasts)
+}

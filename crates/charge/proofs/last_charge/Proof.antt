@@ -1,0 +1,90 @@
+-- `last_charge` meets its contract: the charges are the definition's, and the last is at least the floor.
+-- Assumes nothing.
+use borrow.Author.Needs.{needs}
+use native.Mathlib.Omega.{arith}
+use native.Mathlib.Nat.{le-refl}
+use Prim.Native.Nat.{_^_}
+use mathlib.Core.Path.{_≡_, refl, sym, _∙_}
+use lib.IntN.{ℤ, pos}
+use lib.ListN.{getD}
+use lib.Dec.{T}
+use lib.Signed.{nonNeg, yes-nonNeg, pos-natAbs, natAbs-le}
+use mir.Syntax.{w64}
+use mir.Val.{toZ, ofZ}
+use mir.Facts.{toZ-ofZ}
+use Rattle.rules.specs.MeetsB.{charge}
+use Rattle.plan.specs.View.{headerView}
+use Rattle.placed.specs.View.{scheduleView}
+use Rattle.charge.proofs.ChargeDraws.{zeros, drawing, base-is, last-kept}
+use Rattle.charge.proofs.last_charge.Statement.{statement}
+use Rattle.charge.proofs.last_charge.Tie as tie
+
+slice-aggregate-add-placed : tie.Need-slice-aggregate-add-placed
+slice-aggregate-add-placed c = refl
+
+add-placed-requires : tie.Need-add-placed-requires
+add-placed-requires c κs =
+    let s = c .before in
+    ((s .pre .0, s .pre .1, refl), zeros 4096)
+
+slice-aggregate-fill-charges : tie.Need-slice-aggregate-fill-charges
+slice-aggregate-fill-charges c = search needs
+
+slice-aggregate-fill-charges-2 : tie.Need-slice-aggregate-fill-charges-2
+slice-aggregate-fill-charges-2 c = search needs
+
+fill-charges-requires : tie.Need-fill-charges-requires
+fill-charges-requires c κs =
+    let p = c .before .before .before in
+    let s = p .before .before in
+    (drawing _ _ _ (p .add-placed .ensures) (s .pre .0) (s .pre .1) (p .add-placed .kept .1 .1 .0), refl)
+
+cast-horizon : tie.Need-cast-horizon
+cast-horizon c = search needs
+
+mul-last : tie.Need-mul-last
+mul-last c = search needs
+
+array-copy-out-last : tie.Need-array-copy-out-last
+unfolding headerView
+array-copy-out-last c = omega (arith, c .before .before .before .before .before .before .before .before .pre .0 .header .horizon)
+
+-- what is read is the charge at the horizon
+abbrev begin : tie.After-last → tie.Start
+begin c = c .before .before .before .before .before .before .before .before .before
+
+abbrev z : tie.After-last → ℤ
+z c = getD (c .before .before .before .fill-charges .last .1 .1 .0) (begin c .args .header .horizon) (pos 0)
+
+read-is : (c : tie.After-last) → toZ w64 (ofZ w64 (z c)) ≡ z c
+read-is c = toZ-ofZ (record { sfits = c .last .given })
+
+last-is : (c : tie.After-last) → z c ≡ charge (headerView (begin c .args .header)) (scheduleView (begin c .args .schedule)) (begin c .args .header .horizon)
+last-is c =
+    let f = c .before .before .before in
+    f .fill-charges .ensures _ (le-refl _) ∙ base-is _ _ _ (f .before .before .before .before .add-placed .ensures) _
+
+not-under : (c : tie.After-last) → T (nonNeg (z c))
+unfolding headerView
+not-under c = yes-nonNeg {z = z c} (rw (last-is c) (last-kept (headerView (begin c .args .header)) (scheduleView (begin c .args .schedule)) (begin c .pre .0 .kept .charge)))
+
+cast-result : tie.Need-cast-result
+cast-result c = rw (read-is c) (not-under c, omega (arith, natAbs-le (z c) {H = 2 ^ 63} (c .last .given)))
+
+returns : tie.Need-returns
+returns c = rw (read-is c) (pos-natAbs (z c) (not-under c) ∙ last-is c)
+
+pub last-charge-spec : {M : Type 1} → statement M
+last-charge-spec =
+    tie.close
+    (tie.spec
+    slice-aggregate-add-placed
+    add-placed-requires
+    slice-aggregate-fill-charges
+    slice-aggregate-fill-charges-2
+    fill-charges-requires
+    cast-horizon
+    mul-last
+    array-copy-out-last
+    cast-result
+    returns)
