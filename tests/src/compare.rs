@@ -1,44 +1,82 @@
 // Another planner against the scheduler: the program is run with a plan on its standard input.
 
 use std::io::{Read, Write};
-use std::process::{Command, Stdio};
-use std::sync::mpsc::channel;
+use std::process::{Command, ExitStatus, Stdio};
+use std::sync::mpsc::{channel, Receiver};
 use std::thread;
 use std::time::Duration;
 
 // A planner that has not ended by then is taken not to end.
 const LONGEST: Duration = Duration::from_secs(300);
 
-// What a planner prints for a file.
+// What a program wrote, and how it ended.
+pub struct Ended {
+    pub output: Vec<u8>,
+    pub said: Vec<u8>,
+    pub status: ExitStatus,
+}
+
+// What a planner prints for a file. It ends by itself and says nothing on standard error.
 pub fn run(planner: &str, bytes: &[u8]) -> Result<Vec<u8>, String> {
-    let mut child = Command::new(planner)
-        .stdin(Stdio::piped())
-        .stdout(Stdio::piped())
-        .spawn()
-        .map_err(|error| format!("{planner} doesn't start: {error}"))?;
-    let mut input = child.stdin.take().unwrap();
-    let mut output = child.stdout.take().unwrap();
+    run_in_pieces(planner, bytes, bytes.len().max(1), Duration::ZERO)
+}
+
+// The same, the file written in pieces with a pause behind each.
+pub fn run_in_pieces(planner: &str, bytes: &[u8], piece: usize, pause: Duration) -> Result<Vec<u8>, String> {
     let bytes = bytes.to_vec();
-    // A planner may leave off reading when it has seen enough.
-    let writer = thread::spawn(move || drop(input.write_all(&bytes)));
-    let (send, receive) = channel();
-    thread::spawn(move || {
-        let mut text = Vec::new();
-        let read = output.read_to_end(&mut text).map(|_| text);
-        drop(send.send(read));
-    });
-    let Ok(read) = receive.recv_timeout(LONGEST) else {
+    let ended = end_of(Command::new(planner).stdin(Stdio::piped()), move |mut input| {
+        for piece in bytes.chunks(piece) {
+            // A planner may leave off reading when it has seen enough.
+            if input.write_all(piece).is_err() {
+                break;
+            }
+            thread::sleep(pause);
+        }
+    })?;
+    if !ended.status.success() {
+        return Err(format!("ended by {}", ended.status));
+    }
+    if !ended.said.is_empty() {
+        return Err(format!("says on standard error: {}", String::from_utf8_lossy(&ended.said).trim_end()));
+    }
+    Ok(ended.output)
+}
+
+// Runs a program to its end; `write` gets its standard input, if that is a pipe.
+pub fn end_of(
+    command: &mut Command,
+    write: impl FnOnce(std::process::ChildStdin) + Send + 'static,
+) -> Result<Ended, String> {
+    let mut child = command
+        .stdout(Stdio::piped())
+        .stderr(Stdio::piped())
+        .spawn()
+        .map_err(|error| format!("the planner doesn't start: {error}"))?;
+    let writer = child.stdin.take().map(|input| thread::spawn(move || write(input)));
+    let output = collect(child.stdout.take().unwrap());
+    let said = collect(child.stderr.take().unwrap());
+    let Ok(output) = output.recv_timeout(LONGEST) else {
         drop(child.kill());
         drop(child.wait());
         return Err(format!("no end within {} seconds", LONGEST.as_secs()));
     };
-    let text = read.map_err(|error| format!("its output can't be read: {error}"))?;
-    drop(writer.join());
     let status = child.wait().map_err(|error| error.to_string())?;
-    match status.code() {
-        None => Err(format!("ended by a signal: {status}")),
-        Some(_) => Ok(text),
+    if let Some(writer) = writer {
+        drop(writer.join());
     }
+    Ok(Ended { output, said: said.recv().unwrap_or_default(), status })
+}
+
+// All that is written to a pipe, sent when it is closed.
+fn collect(mut from: impl Read + Send + 'static) -> Receiver<Vec<u8>> {
+    let (send, receive) = channel();
+    thread::spawn(move || {
+        let mut text = Vec::new();
+        if from.read_to_end(&mut text).is_ok() {
+            drop(send.send(text));
+        }
+    });
+    receive
 }
 
 // The first line in which two outputs, each with its name, differ.

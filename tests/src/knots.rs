@@ -155,7 +155,7 @@ pub fn idle(duration: i64) -> Activity {
 }
 
 // An activity with one start in its window.
-fn fixed(start: i64, duration: i64) -> Activity {
+pub fn fixed(start: i64, duration: i64) -> Activity {
     Activity { preferred: start, windows: vec![(start, start)], ..idle(duration) }
 }
 

@@ -7,10 +7,11 @@ pub mod placing;
 pub mod plan;
 pub mod reading;
 
-// Plans made from a seed.
+// Plans made from a seed, and those of full size.
 mod aim;
 mod damage;
 mod extremes;
+pub mod full;
 pub mod generator;
 mod knots;
 mod random;
@@ -26,4 +27,5 @@ pub mod tally;
 // The stored corpus, and another planner.
 pub mod compare;
 pub mod corpus;
+pub mod limits;
 pub mod readings;

@@ -4,7 +4,9 @@ use differential::calls::output;
 use differential::check::check;
 use differential::compare::{difference, run};
 use differential::corpus;
+use differential::full::{full, KINDS};
 use differential::generator::{fixed, generate, Generated};
+use differential::limits::limits;
 use differential::readings::readings;
 use differential::tally::Tally;
 use std::io::{Read, Write};
@@ -14,11 +16,14 @@ use std::process::ExitCode;
 
 const USE: &str = "differential check FIRST COUNT FOLDER            the scheduler's own check on COUNT seeds
 differential compare PLANNER FIRST COUNT FOLDER  a planner against the scheduler
+differential limits PLANNER FOLDER               a planner at the limits of its input
 differential stored CORPUS FOLDER                the stored corpus: its answers and the check of its plans
 differential corpus CORPUS                       write the corpus anew
 differential answers                             answers to a corpus stream on standard input
 differential output                              what the program prints for a plan on standard input
 differential readings                            what is read of a stored set of files on standard input
+differential full                                the kinds of full-size plans
+differential full KIND                           the full-size plan of a kind
 differential plan SEED                           the file made from a seed
 A file that shows a difference is saved in FOLDER.";
 
@@ -28,11 +33,14 @@ fn main() -> ExitCode {
     let done = match words[..] {
         ["check", first, count, folder] => check_seeds(seeds(first, count), Path::new(folder)),
         ["compare", planner, first, count, folder] => compare(planner, seeds(first, count), Path::new(folder)),
+        ["limits", planner, folder] => check_limits(planner, Path::new(folder)),
         ["stored", corpus, folder] => check_corpus(Path::new(corpus), Path::new(folder)),
         ["corpus", folder] => write_corpus(Path::new(folder)),
         ["answers"] => print(corpus::answers(&input()).ok_or("the stream is malformed".to_string())),
         ["readings"] => print(readings(&input()).ok_or("the set is malformed".to_string())),
         ["output"] => print(Ok(output(&input()))),
+        ["full"] => print(Ok(KINDS.iter().map(|kind| format!("{}\t{}\n", kind.0, kind.1)).collect::<String>().into())),
+        ["full", kind] => print(full(kind).ok_or(format!("no kind {kind}"))),
         ["plan", seed] => print(Ok(generate(number(seed)).bytes)),
         _ => Err(USE.to_string()),
     };
@@ -89,8 +97,12 @@ fn check_files(files: impl Iterator<Item = Generated>, all: bool, folder: &Path)
         }
     }
     println!("{tally}");
-    let missing = tally.missing();
-    if all && !missing.is_empty() {
+    all_turned_up(all, tally.missing())
+}
+
+// Of many files, nothing may be missing.
+fn all_turned_up(many: bool, missing: Vec<String>) -> Result<(), String> {
+    if many && !missing.is_empty() {
         return Err(format!("never turned up: {}", missing.join(", ")));
     }
     Ok(())
@@ -99,7 +111,7 @@ fn check_files(files: impl Iterator<Item = Generated>, all: bool, folder: &Path)
 // The stored corpus: the scheduler's answers are those stored, and its plans pass the check.
 fn check_corpus(corpus: &Path, folder: &Path) -> Result<(), String> {
     let file = |name| std::fs::read(corpus.join(name)).map_err(|error| format!("corpus {name}: {error}"));
-    let (plans, expected) = (file("plans")?, file("expected")?);
+    let (plans, expected) = (file("stdin")?, file("stdout")?);
     let answers = corpus::answers(&plans).ok_or("the stream is malformed")?;
     if answers != expected {
         return Err(format!("answers to the corpus, {}", difference(("stored", &expected), ("scheduler", &answers))));
@@ -107,25 +119,33 @@ fn check_corpus(corpus: &Path, folder: &Path) -> Result<(), String> {
     check_files(corpus::stored(&plans).unwrap().into_iter(), true, folder)
 }
 
+// A planner against the scheduler, and the tally of what both printed.
 fn compare(planner: &str, seeds: std::ops::Range<u64>, folder: &Path) -> Result<(), String> {
-    let count = seeds.end - seeds.start;
-    let mut compared = 0;
+    let many = seeds.end - seeds.start >= MANY;
+    let mut tally = Tally::default();
     for file in fixed().into_iter().chain(seeds.map(generate)) {
         let own = output(&file.bytes);
         match run(planner, &file.bytes) {
-            Ok(text) if text == own => compared += 1,
+            Ok(text) if text == own => tally.printed(file.kind, &text),
             Ok(text) => return found(&file, folder, difference(("planner", &text), ("scheduler", &own))),
             Err(said) => return found(&file, folder, said),
         }
     }
-    println!("  planner and scheduler agree on {compared} files, {count} of them from seeds");
+    println!("{}", tally.of_printed());
+    all_turned_up(many, tally.missing_printed())
+}
+
+// A planner at the limits of its input.
+fn check_limits(planner: &str, folder: &Path) -> Result<(), String> {
+    for tried in limits(planner, folder)? {
+        println!("  {tried}");
+    }
     Ok(())
 }
 
 fn write_corpus(folder: &Path) -> Result<(), String> {
     let corpus = corpus::write();
-    for (name, bytes) in [("plans", corpus.plans), ("expected", corpus.expected), ("index", corpus.index.into_bytes())]
-    {
+    for (name, bytes) in [("stdin", corpus.plans), ("stdout", corpus.expected), ("index", corpus.index.into_bytes())] {
         std::fs::write(folder.join(name), bytes).map_err(|error| error.to_string())?;
     }
     Ok(())

@@ -44,10 +44,44 @@ impl Tally {
         }
     }
 
+    // What a program printed for a file: each line of a report, or the refusal.
+    pub fn printed(&mut self, kind: &'static str, text: &[u8]) {
+        self.kind(kind);
+        let text = String::from_utf8_lossy(text);
+        let lines: Vec<Vec<&str>> = text.lines().map(|line| line.split('\t').collect()).collect();
+        if let [["no", number, _]] = lines.iter().map(Vec::as_slice).collect::<Vec<_>>()[..] {
+            return self.number(number.parse().unwrap_or(0));
+        }
+        self.accepted += 1;
+        for line in lines {
+            match line[..] {
+                [_, "refused", letters] => self.refused(letters),
+                [_, "placed", _, _] => self.placed += 1,
+                _ => {}
+            }
+        }
+    }
+
     // What never turned up although it must.
     pub fn missing(&self) -> Vec<String> {
+        let mut missing = self.missing_printed();
+        for number in 10..=12 {
+            if !self.numbers.contains_key(&number) {
+                missing.push(format!("refusal {number}"));
+            }
+        }
+        for (what, count) in [("tie", self.ties), ("start 0", self.at_first), ("start T-d", self.at_last)] {
+            if count == 0 {
+                missing.push(what.to_string());
+            }
+        }
+        missing
+    }
+
+    // The same of what a program prints.
+    pub fn missing_printed(&self) -> Vec<String> {
         let mut missing = Vec::new();
-        for number in 1..=12 {
+        for number in 1..=9 {
             if !self.numbers.contains_key(&number) {
                 missing.push(format!("refusal {number}"));
             }
@@ -62,12 +96,23 @@ impl Tally {
                 missing.push(format!("{size} letters"));
             }
         }
-        for (what, count) in [("tie", self.ties), ("start 0", self.at_first), ("start T-d", self.at_last)] {
-            if count == 0 {
-                missing.push(what.to_string());
-            }
-        }
         missing
+    }
+
+    // The lines of the tally that are of what a program prints.
+    pub fn of_printed(&self) -> String {
+        let files: BTreeMap<_, _> = self.numbers.iter().filter(|&(&number, _)| number < 10).collect();
+        let lines = [
+            format!("  files        {}: {}", self.kinds.values().sum::<u64>(), row(&self.kinds)),
+            format!("  accepted     {}", self.accepted),
+            format!("  no, files    {}: {}", files.values().copied().sum::<u64>(), row(&files)),
+            format!("  placed       {}", self.placed),
+            format!("  refused      {}", self.refused),
+            format!("  by letter    {}", row(&self.letters)),
+            format!("  by size      {}", row(&self.sizes)),
+            format!("  letter sets  {} different", self.sets.len()),
+        ];
+        lines.join("\n")
     }
 }
 
@@ -77,20 +122,14 @@ fn row<K: fmt::Display, N: fmt::Display>(counts: &BTreeMap<K, N>) -> String {
 
 impl fmt::Display for Tally {
     fn fmt(&self, out: &mut fmt::Formatter) -> fmt::Result {
-        writeln!(out, "  files        {}: {}", self.kinds.values().sum::<u64>(), row(&self.kinds))?;
-        writeln!(out, "  accepted     {}", self.accepted)?;
-        let (files, calls) = self.numbers.iter().partition(|&(&number, _)| number < 10);
-        writeln!(out, "  no, files    {}", row::<&u32, &u64>(&files))?;
-        writeln!(out, "  no, calls    {}", row::<&u32, &u64>(&calls))?;
+        let calls: BTreeMap<_, _> = self.numbers.iter().filter(|&(&number, _)| number >= 10).collect();
+        writeln!(out, "{}", self.of_printed())?;
         writeln!(
             out,
-            "  placed       {} ({} at start 0, {} at T-d, {} of two equally near)",
-            self.placed, self.at_first, self.at_last, self.ties
+            "  placed where {} at start 0, {} at T-d, {} at the earlier of two equally near",
+            self.at_first, self.at_last, self.ties
         )?;
-        writeln!(out, "  refused      {}", self.refused)?;
-        writeln!(out, "  by letter    {}", row(&self.letters))?;
-        writeln!(out, "  by size      {}", row(&self.sizes))?;
-        writeln!(out, "  letter sets  {} different", self.sets.len())?;
+        writeln!(out, "  no, calls    {}", row(&calls))?;
         write!(out, "  starts       {} lists of runs", self.starts)
     }
 }

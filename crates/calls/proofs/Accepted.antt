@@ -61,15 +61,15 @@ held-placeable s q A S =
       view = A .view;
       count = sym (order-length (A .plan .activities)) ∙ count;
       placeable =
-        record {
-          few = S .few;
-          long = S .long;
-          sizes = S .sizes;
-          header = rw head (F .0 .header);
-          each = λ k h. rw (head, ← same k h) (each-formed (A .plan) (F .0) k (rw count h));
-          ordered = rw acts (order-again (A .plan .activities));
-          reachable = rw head (F .1);
-        };
+          record {
+            few = S .few;
+            long = S .long;
+            sizes = S .sizes;
+            header = rw head (F .0 .header);
+            each = λ k h. rw (head, ← same k h) (each-formed (A .plan) (F .0) k (rw count h));
+            ordered = rw acts (order-again (A .plan .activities));
+            reachable = rw head (F .1);
+          };
     }
 
 pub read-as : (r : ReadingStruct) (s : List ℕ) → readingView r ≡ inOrder (reading s) → PlanSized (r .plan) → ReadAs s r

@@ -1,4 +1,5 @@
 pub mod Accepted
 pub mod Answering
 pub mod Running
+pub mod Writing
 pub mod Promise

@@ -1,14 +1,15 @@
 // The planner's calls on a plan's bytes (document 01, Calls): the public library.
 ghost use mathlib.Core.Path.{_≡_};
+ghost use mathlib.Core.Bool.{true, cond};
 ghost use Prim.Native.Nat.{_<_, _≤_, min};
 ghost use lib.ListN.{length};
-ghost use Rattle.rules.specs.Calls.{countTerms, refusal, filling, runs};
+ghost use Rattle.rules.specs.Calls.{countTerms, refusal, sliceAfter, filling, runs};
 ghost use Rattle.plan.specs.View.{planView};
 ghost use Rattle.rules.specs.Runs.{runsFrom};
 ghost use Rattle.schedule.specs.Places.{Placeable};
 ghost use Rattle.schedule.specs.Search.{meetsIn};
 ghost use Rattle.calls.specs.Read.{ReadAs};
-ghost use Rattle.calls.specs.Called.{OutcomeCalled, ColumnsFilled, StartsCalled};
+ghost use Rattle.calls.specs.Called.{OutcomeCalled, SliceFilled, ReportCalled, ColumnsFilled, StartsCalled, OutputCalled};
 use plan::Plan;
 use plan::Reading;
 use rules::CountAnswer;
@@ -49,6 +50,45 @@ pub fn outcome(bytes: &[u8], place: usize) -> OutcomeAnswer
         });
     }
     OutcomeAnswer::Answer(schedule::placing::outcome_at(plan, place))
+}
+
+// Copies a text to the front of a slice, where it is to be written.
+fn put_if(written: bool, out: &mut [u8], text: &[u8])
+    requires { ⌜ (written ≡ true → length (now text) ≤ length (now out)) ⌝ }
+    ensures { λ _. ⌜ now (out .exit) ≡ cond written (sliceAfter (now (text .entry)) (now (out .entry))) (now (out .entry)) ⌝ }
+{
+    if written {
+        text::word::put_bytes(out, 0, text);
+    }
+}
+
+// Copies a text to the front of a slice and answers its length; a slice too short for it remains.
+fn hand_over(text: &[u8], out: &mut [u8]) -> CountAnswer
+    ensures { λ r. ⌜ SliceFilled (filling (length (now (out .entry))) (now (text .entry))) (now (out .entry)) r (now (out .exit)) ⌝ }
+{
+    let fits = text.len() <= out.len();
+    put_if(fits, out, text);
+    if fits {
+        return CountAnswer::Count(text.len());
+    }
+    refuse(10)
+}
+
+// The report, written to the front of `out`; answers its length.
+pub fn report(bytes: &[u8], out: &mut [u8]) -> CountAnswer
+    ensures { λ r. ⌜ ReportCalled (now (bytes .entry)) (now (out .entry)) r (now (out .exit)) ⌝ }
+{
+    let reading = read(bytes);
+    if reading.number != 0 {
+        let refusal = Refusal {
+            number: reading.number,
+            line: reading.line,
+        };
+        return CountAnswer::No(refusal);
+    }
+    let mut written = [0u8; 4608];
+    let length = report::whole::put_report(reading.plan, &mut written);
+    hand_over(&written[..length], out)
 }
 
 // Writes the runs of starts of a table that meet a set of conditions, and answers their count.
@@ -114,4 +154,15 @@ pub fn starts(
         return refuse(12);
     }
     runs_at(plan, place, set, firsts, lasts)
+}
+
+// What the program prints, the report or the `no` line, written to the front of `out`; answers its length.
+pub fn output(bytes: &[u8], out: &mut [u8; 4608]) -> usize
+    ensures { λ r. ⌜ OutputCalled (now (bytes .entry)) (now (out .entry)) r (now (out .exit)) × (r ≤ 4608) ⌝ }
+{
+    let reading = read(bytes);
+    if reading.number != 0 {
+        return report::line::put_no(out, 0, reading.number as u64, reading.line as u64);
+    }
+    report::whole::put_report(reading.plan, out)
 }

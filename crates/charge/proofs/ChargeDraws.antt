@@ -7,7 +7,6 @@ use mathlib.Core.Bool.{Bool, true, false, cond, _&&_}
 use mathlib.Core.List.{List, [], _∷_, List·Memᴰ, List·Memᴰ·head, List·Memᴰ·tail}
 use native.Mathlib.Decide.{ℕ-discrete}
 use native.Mathlib.Omega.{arith}
-use native.Mathlib.Nat.{le-refl}
 use lib.Dec.{leb, ltb}
 use lib.IntN.{pos, _+ℤ_, _-ℤ_}
 use lib.Signed.{leZ, _≤ℤ_}
@@ -91,6 +90,24 @@ raised-own o old mid new p q t = go (ltb t (o .start)) refl (leb (o .heat) t) re
     go false e false f true g = omega (arith, simp (e, f) at (p .at t), simp (le-leb (o .start) t (ltb-false _ _ e), g) at (q .at t))
     go false e false f false g = omega (arith, simp (e, f) at (p .at t), simp (le-leb (o .start) t (ltb-false _ _ e), g) at (q .at t))
 
+-- in the ticks before it draws, while its heater works, while it is held, and after it
+module _ (draws : List ℕ) (o : OwnDraw) (t : ℕ) where
+  pub draws-before : o .heat ≤ o .start → t < o .heat → drawMore draws 0 t ≡ drawWith draws o t
+  unfolding drawOf drawMore drawWith
+  draws-before h l = rw (lt-ltb t (o .start) (omega arith), lt-leb (o .heat) t l)
+
+  pub draws-heating : o .heat ≤ t → t < o .start → drawMore draws (o .heater) t ≡ drawWith draws o t
+  unfolding drawOf drawMore drawWith
+  draws-heating h l = rw (lt-ltb t (o .start) l, le-leb (o .heat) t h)
+
+  pub draws-held : o .start ≤ t → t < o .end → drawMore draws (o .draw) t ≡ drawWith draws o t
+  unfolding drawOf drawMore drawWith
+  draws-held h l = rw (le-ltb t (o .start) h, lt-ltb t (o .end) l)
+
+  pub draws-after : o .start ≤ o .end → o .end ≤ t → drawMore draws 0 t ≡ drawWith draws o t
+  unfolding drawOf drawMore drawWith
+  draws-after h l = rw (le-ltb t (o .start) (omega arith), le-ltb t (o .end) l)
+
 heats-from : (s t w : ℕ) → leb (s - w) t ≡ leb s (t + w)
 heats-from s t w = bool-ext _ _ (λ e. let m : s - w ≤ t = leb-true _ _ e in le-leb s (t + w) (omega arith)) (λ e. let m : s ≤ t + w = leb-true _ _ e in le-leb (s - w) t (omega arith))
 
@@ -170,9 +187,9 @@ module _ (h : HeaderStruct) (s : ScheduleStruct) (draws : List ℕ) (sums : (t :
   pub base-is : (t : ℕ) → chargeBy h (drawMore draws 0) t ≡ charge (headerView h) (scheduleView s) t
   base-is = charge-is h (scheduleView s) (drawMore draws 0) same-draws
 
-  pub drawing : Reached (headerView h) (scheduleView s) → s .count ≤ 64 → length draws ≡ 4096 → Drawing draws h
+  pub drawing : Reached (headerView h) (scheduleView s) → length draws ≡ 4096 → Drawing draws h
   unfolding headerView scheduleView
-  drawing r few size = record { known = omega (arith, r .header .horizon); short = omega (arith, r .header .horizon); few = λ t. omega (arith, sums t, draws-few h s r (s .count) t (le-refl _)); first = r .header .first .1; kept = kept-is h (scheduleView s) (drawMore draws 0) same-draws ∙ r .kept .charge }
+  drawing r size = record { known = omega (arith, r .header .horizon); short = omega (arith, r .header .horizon); first = r .header .first .1; kept = kept-is h (scheduleView s) (drawMore draws 0) same-draws ∙ r .kept .charge }
 
 -- the last charge of a schedule that keeps its charge is a natural number
 pub last-kept : (h : Header) (placed : Schedule) → chargeKept h placed ≡ true → pos 0 ≤ℤ charge h placed (h .horizon)

@@ -44,26 +44,25 @@ keptBy h draw = each (λ t. leZ (pos (h .floor)) (chargeBy h draw t)) (suc (h .h
 unfoldable pub keptAt : HeaderStruct → List ℕ → ℕ → ℕ → ℕ → ℕ → Bool
 keptAt h draws duration draw warm s = keptBy h (drawWith draws (ownDraw h s duration draw warm))
 
--- sums of draws of a schedule that keeps its charge, with which the trial's charges fit
+-- sums of draws of a schedule that keeps its charge
 pub record Drawing (draws : List ℕ) (h : HeaderStruct) : Type 0 where
   pub known : h .horizon ≤ length draws
   pub short : h .horizon ≤ 4096
-  pub few : (t : ℕ) → getD draws t 0 ≤ 128000000
   pub first : h .first ≤ h .capacity
   pub kept : keptBy h (drawMore draws 0) ≡ true
 
--- charges run on from tick `from` to tick `to`, each after the one before; all but the last are at least the floor
+-- an array of the charges at each tick to the horizon
+pub record Charges (h : HeaderStruct) (draw : ℕ → ℕ) (xs : List ℤ) : Type 0 where
+  pub size : length xs ≡ 4097
+  pub at : (t : ℕ) → t ≤ h .horizon → getD xs t (pos 0) ≡ chargeBy h draw t
+
+-- charges run on from tick `from` to tick `to`, each after the one before; all but the last are at least the floor, and those up to `from` remain
 pub record Ran (h : HeaderStruct) (draw : ℕ → ℕ) (from to : ℕ) (old new : List ℤ) : Type 0 where
   pub size : length new ≡ length old
   pub began : from ≤ to
-  pub first : getD new from (pos 0) ≡ getD old from (pos 0)
+  pub past : (t : ℕ) → t ≤ from → getD new t (pos 0) ≡ getD old t (pos 0)
   pub next : (t : ℕ) → from ≤ t → t < to → getD new (t + 1) (pos 0) ≡ chargeNext (h .capacity) (h .rate) (draw t) (getD new t (pos 0))
   pub kept : (t : ℕ) → from ≤ t → t < to → leZ (pos (h .floor)) (getD new t (pos 0)) ≡ true
-
--- a list of `room` elements, of which 0 to n are f 0 to f n
-pub record FilledBy {A : Type 0} (f : ℕ → A) (d : A) (n room : ℕ) (xs : List A) : Type 0 where
-  pub size : length xs ≡ room
-  pub at : (t : ℕ) → t ≤ n → getD xs t d ≡ f t
 
 -- the elements from `from` to before `to` are raised by `by`; the others remain
 pub record RaisedBetween (from to by : ℕ) (old new : List ℕ) : Type 0 where

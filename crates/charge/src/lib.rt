@@ -1,6 +1,7 @@
-// Condition B: the charge with the candidate added, by a trial over the ticks for each start.
+// Condition B: the charge with the candidate added, by a trial for each start. The base is the charge with the placed alone; a trial differs from it only from where the candidate begins to draw to where the charge is the base's again.
 ghost use mathlib.Core.Path.{_≡_};
 ghost use mathlib.Core.Bool.{false};
+ghost use mathlib.Core.Logic.{_⊎_};
 ghost use Prim.Native.Nat.{ℕ, _+_, _-_, _<_, _≤_};
 ghost use lib.IntN.{pos, negsuc};
 ghost use lib.ListN.{length, getD};
@@ -10,7 +11,7 @@ ghost use Rattle.plan.specs.View.{headerView, activityView};
 ghost use Rattle.placed.specs.View.{scheduleView};
 ghost use Rattle.placed.specs.Ready.{Reached, Ready};
 ghost use Rattle.placed.specs.Marked.{Marked};
-ghost use Rattle.charge.specs.Charge.{ownDraw, drawOf, drawMore, drawWith, chargeNext, chargeBy, keptBy, keptAt, Drawing, Ran, RaisedBetween};
+ghost use Rattle.charge.specs.Charge.{ownDraw, drawOf, drawMore, drawWith, chargeNext, keptBy, keptAt, Drawing, Charges, Ran, RaisedBetween};
 use placed::Schedule;
 use placed::mark_if;
 use plan::Activity;
@@ -48,32 +49,6 @@ fn own_draw(header: Header, start: u32, duration: u32, draw: u32, warm: u32) -> 
     }
 }
 
-// What it draws in a tick.
-fn draw_in(own: OwnDraw, t: usize) -> u32
-    ensures { λ r. ⌜ r ≡ drawOf own t ⌝ }
-{
-    if t < own.start {
-        if own.heat <= t {
-            return own.heater;
-        }
-        return 0;
-    }
-    if t < own.end {
-        return own.draw;
-    }
-    0
-}
-
-// All draws in a tick: those of the placed, and its own.
-fn draw_with(draws: &[u32], own: OwnDraw, t: usize) -> u64
-    requires { ⌜ (t < length (now draws)) × (getD (now draws) t 0 ≤ 128000000) ⌝ }
-    ensures { λ r. ⌜ r ≡ drawWith (now (draws .entry)) own t ⌝ }
-    ensures { λ r. ⌜ r < 8589934592 ⌝ }
-{
-    let more = draw_in(own, t) as u64;
-    wide(draws[t]) + more
-}
-
 // The same number in 64 bits.
 fn wide(x: u32) -> u64
     ensures { λ r. ⌜ (r ≡ x) × (r < 4294967296) ⌝ }
@@ -92,7 +67,7 @@ fn step(c: i64, capacity: u32, rate: u32, draw: u64) -> i64
     if top <= next { top } else { next }
 }
 
-// Runs the charge on from tick `from` with `by` drawn beside the placed: to tick `to`, or to the first tick under the floor. Answers the tick reached.
+// Runs the charge on from tick `from`, with `by` drawn beside the placed, to tick `to` or the first tick under the floor. Answers the tick reached.
 fn run_ticks(
     draws: &[u32],
     header: Header,
@@ -123,38 +98,85 @@ fn run_ticks(
     t
 }
 
-// Fills in the charge at each tick with the placed alone.
+// Runs the charge on from tick `from`, with the placed alone, to the horizon, the first tick under the floor, or the first where the charge is the base's again.
+fn run_back(draws: &[u32], header: Header, base: &[i64], from: usize, charge: &mut [i64]) -> usize
+    requires { ⌜ (from ≤ header .horizon) × (header .horizon ≤ length (now draws)) × (header .horizon < length (now charge)) × (header .horizon < length (now base)) ⌝ }
+    requires { ⌜ getD (now charge) from (pos 0) ≤ℤ pos (header .capacity) ⌝ }
+    ensures { λ r. ⌜ (r ≤ header .horizon) × Ran header (drawMore (now (draws .entry)) 0) from r (now (charge .entry)) (now (charge .exit)) ⌝ }
+    ensures { λ r. ⌜ (r < header .horizon → (leZ (pos (header .floor)) (getD (now (charge .exit)) r (pos 0)) ≡ false) ⊎ (getD (now (charge .exit)) r (pos 0) ≡ getD (now (base .entry)) r (pos 0))) ⌝ }
+{
+    let horizon = header.horizon as usize;
+    let floor = header.floor as i64;
+    let mut t = from;
+    let mut c = charge[t];
+    'ticks: while t < horizon {
+        let b = base[t];
+        if c == b {
+            break 'ticks;
+        } else if floor <= c {
+            c = step(c, header.capacity, header.rate, wide(draws[t]));
+            t += 1;
+            charge[t] = c;
+        } else {
+            break 'ticks;
+        }
+    }
+    t
+}
+
+// Runs the charge on through the ticks in which one activity draws, to its end or the first tick under the floor.
+fn run_own(draws: &[u32], header: Header, own: OwnDraw, charge: &mut [i64]) -> usize
+    requires { ⌜ (own .heat ≤ own .start) × (own .start ≤ own .end) × (own .end ≤ length (now draws)) × (own .end < length (now charge)) ⌝ }
+    requires { ⌜ getD (now charge) (own .heat) (pos 0) ≤ℤ pos (header .capacity) ⌝ }
+    ensures { λ r. ⌜ (r ≤ own .end) × Ran header (drawWith (now (draws .entry)) own) (own .heat) r (now (charge .entry)) (now (charge .exit)) ⌝ }
+    ensures { λ r. ⌜ (r < own .end → leZ (pos (header .floor)) (getD (now (charge .exit)) r (pos 0)) ≡ false) ⌝ }
+{
+    let heat = own.heat;
+    let start = own.start;
+    let end = own.end;
+    let heated = run_ticks(draws, header, own.heater, heat, start, charge);
+    if heated < start {
+        return heated;
+    }
+    run_ticks(draws, header, own.draw, start, end, charge)
+}
+
+// Fills in the base at each tick.
 fn fill_charges(draws: &[u32], header: Header, charge: &mut [i64])
     requires { ⌜ Drawing (now draws) header × (length (now charge) ≡ 4097) ⌝ }
-    ensures { λ _. ⌜ ((t : ℕ) → t ≤ header .horizon → getD (now (charge .exit)) t (pos 0) ≡ chargeBy header (drawMore (now (draws .entry)) 0) t) ⌝ }
+    ensures { λ _. ⌜ Charges header (drawMore (now (draws .entry)) 0) (now (charge .exit)) ⌝ }
 {
     let horizon = header.horizon as usize;
     charge[0] = header.first as i64;
     run_ticks(draws, header, 0, 0, horizon, charge);
 }
 
-// Whether the charge keeps to the floor and the handover with these draws: a trial, left at the first tick under the floor.
-fn keeps_charge(draws: &[u32], header: Header, own: OwnDraw) -> bool
-    requires { ⌜ Drawing (now draws) header ⌝ }
+// Whether the charge keeps to the floor and the handover with one activity more: a trial, begun with the base where the activity begins to draw.
+fn keeps_charge(
+    draws: &[u32],
+    header: Header,
+    base: &[i64],
+    own: OwnDraw,
+    trial: &mut [i64],
+) -> bool
+    requires { ⌜ Drawing (now draws) header × Charges header (drawMore (now draws) 0) (now base) × (length (now trial) ≡ 4097) ⌝ }
+    requires { ⌜ (own .heat ≤ own .start) × (own .start ≤ own .end) × (own .end ≤ header .horizon) ⌝ }
     ensures { λ r. ⌜ r ≡ keptBy header (drawWith (now (draws .entry)) own) ⌝ }
 {
-    let horizon = header.horizon as usize;
-    let floor = header.floor as i64;
-    let mut charge = [0i64; 4097];
-    charge[0] = header.first as i64;
-    let mut t = 0;
-    'ticks: while t < horizon {
-        let c = charge[t];
-        if floor <= c {
-            let d = draw_with(draws, own, t);
-            charge[t + 1] = step(c, header.capacity, header.rate, d);
-            t += 1;
-        } else {
-            break 'ticks;
-        }
+    let heat = own.heat;
+    let end = own.end;
+    trial[heat] = base[heat];
+    let ended = run_own(draws, header, own, trial);
+    if ended < end {
+        return false;
     }
-    let last = charge[t];
-    if floor <= last {
+    let t = run_back(draws, header, base, end, trial);
+    let last = trial[t];
+    let b = base[t];
+    if last == b {
+        return true;
+    }
+    if header.floor as i64 <= last {
         return header.handover as i64 <= last;
     }
     false
@@ -218,14 +240,17 @@ fn mark_trials(
     table: &mut [u32],
 )
     requires { ⌜ Drawing (now draws) header ⌝ }
-    requires { ⌜ (count + duration ≤ 4097) × (count ≤ length (now table)) ⌝ }
+    requires { ⌜ (count + duration ≤ header .horizon + 1) × (count ≤ length (now table)) ⌝ }
     requires { ⌜ ((k : ℕ) → getD (now table) k 0 + by < 4294967296) ⌝ }
     ensures { λ _. ⌜ Marked (keptAt header (now (draws .entry)) duration draw warm) by count (now (table .entry)) (now (table .exit)) ⌝ }
 {
+    let mut base = [0i64; 4097];
+    fill_charges(draws, header, &mut base);
+    let mut trial = [0i64; 4097];
     let mut s = 0;
     while s < count {
         let own = own_draw(header, s as u32, duration, draw, warm);
-        let kept = keeps_charge(draws, header, own);
+        let kept = keeps_charge(draws, header, &base, own, &mut trial);
         table[s] = table[s] + mark_if(kept, by);
         s += 1;
     }
@@ -259,7 +284,7 @@ pub fn mark_charge(
     );
 }
 
-// The charge at the horizon with the placed alone; it is at least the floor.
+// The base at the horizon; it is at least the floor.
 pub fn last_charge(header: Header, schedule: Schedule) -> u64
     requires { ⌜ Reached (headerView header) (scheduleView schedule) × (schedule .count ≤ 64) ⌝ }
     ensures { λ r. ⌜ pos r ≡ charge (headerView header) (scheduleView schedule) (header .horizon) ⌝ }

@@ -3,24 +3,29 @@
 use Prim.Native.Nat.{ℕ, _+_, _<_, _≤_}
 use mathlib.Core.Path.{_≡_}
 use native.Mathlib.Omega.{arith}
+use lib.ListN.{getD}
+use Rattle.rules.specs.Plan.{Header}
 use Rattle.rules.specs.Outcomes.{starts}
 use Rattle.rules.specs.WellFormed.{HeaderFormed, ActivityFormed}
-use Rattle.plan.specs.View.{Sized, headerView, activityView}
+use Rattle.plan.specs.View.{Sized, noStruct, headerView, activityView}
 use Rattle.plan.specs.declared.Header.{Header as HeaderStruct}
 use Rattle.plan.specs.declared.Activity.{Activity as ActivityStruct}
 use Rattle.placed.specs.declared.Schedule.{Schedule as ScheduleStruct}
 use Rattle.placed.specs.View.{scheduleView}
-use Rattle.placed.specs.Ready.{Ready, Bounded}
+use Rattle.placed.specs.Ready.{Reached, Ready, Bounded}
 use Rattle.placed.proofs.Entries.{entryAt, entry-in}
 
--- what is ready is bounded
-pub bounded : (h : HeaderStruct) (s : ScheduleStruct) (a : ActivityStruct) → Ready h s a → Bounded s
+-- what is reached is bounded, and so is what is ready
+pub reached-bounded : (h : Header) (s : ScheduleStruct) → Reached h (scheduleView s) → s .count ≤ 64 → ((i : ℕ) → i < s .count → Sized (getD (s .activities) i noStruct)) → Bounded s
 unfolding scheduleView activityView
-bounded h s a r = record {
-  few = r .few;
-  ends = λ i k. omega (arith, r .reached .inTime (entryAt (s .activities) (s .starts) i) (entry-in (s .activities) (s .starts) (s .count) i k), r .reached .header .horizon .1);
-  sizes = r .sizes;
+reached-bounded h s r few sizes = record {
+  few = few;
+  ends = λ i k. omega (arith, r .inTime (entryAt (s .activities) (s .starts) i) (entry-in (s .activities) (s .starts) (s .count) i k), r .header .horizon .1);
+  sizes = sizes;
 }
+
+pub bounded : (h : HeaderStruct) (s : ScheduleStruct) (a : ActivityStruct) → Ready h s a → Bounded s
+bounded h s a r = reached-bounded (headerView h) s (r .reached) (r .few) (r .sizes)
 
 -- a candidate's ticks are ticks of the plan, of which there are at most 4,096
 pub starts-end : (h : HeaderStruct) (a : ActivityStruct) (s : ℕ) → ActivityFormed (headerView h) (activityView a) → s < starts (headerView h) (activityView a) → s + a .duration ≤ h .horizon

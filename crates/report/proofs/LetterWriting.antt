@@ -8,13 +8,13 @@ use native.Mathlib.Nat.{div-div-eq-div-mul, div-one, pow-suc}
 use native.Mathlib.Numerals.{add-one}
 use native.Mathlib.Omega.{arith}
 use lib.Dec.{eqb}
-use lib.ListN.{length, getD, drop, set, drop-of-length-le}
+use lib.ListN.{length, getD, drop, set}
 use lib.Seq.{drop-cons}
 use borrow.Author.Tests.{eq-eqb, ne-eqb}
 use Rattle.rules.specs.Conditions.{conditionCount, conditionLetters, has, lettersFrom, lettersOf}
 use Rattle.text.proofs.Put.{put-nil, put-one}
 use Rattle.report.specs.Lines.{Wrote, lowest}
-use Rattle.report.proofs.Writing.{more}
+use Rattle.report.proofs.Writing.{wrote-then}
 
 module _ (l : List ℕ) (at left x : ℕ) where
   pub letter-written : (y : ℕ) → left % 2 ≡ 1 → y ≡ x → at < length l → Wrote l at (lowest left x) (set l at y) (at + 1)
@@ -70,4 +70,4 @@ letters-all m = sym (append-nil (lettersTo m 9)) ∙ letters-split m 9 (omega ar
 pub letters-more : (old : List ℕ) (at m c left : ℕ) (out new : List ℕ) (to next : ℕ) → Wrote old at (lettersTo m c) out to → left ≡ m / 2 ^ c → Wrote out to (lowest left (getD conditionLetters c 0)) new next → next ≤ length old → Wrote old at (lettersTo m (c + 1)) new next
 unfolding lettersTo
 letters-more old at m c left out new to next W e L h =
-    rw (add-one, ← e) (more old at (lettersTo m c) out to W (lowest left (getD conditionLetters c 0)) new next (L .holds) (L .behind) (omega (arith, L .behind)))
+    rw (add-one, ← e) (wrote-then old at (lettersTo m c) out to W (lowest left (getD conditionLetters c 0)) new next L h)

@@ -42,7 +42,7 @@ returns : tie.Need-returns
 returns c =
     let e = c .before .run-ticks .ensures in
     let s = c .before .before .before .before .before .before in
-    ran-whole _ _ _ _ _ (s .pre .0 .kept) (first-is s) (e .0 .0) (e .0 .1) (e .1)
+    record { size = same-length c ∙ s .pre .1; at = ran-whole _ _ _ _ _ (s .pre .0 .kept) (first-is s) (e .0 .0) (e .0 .1) (e .1) }
 
 pub fill-charges-spec : {M : Type 1} → statement M
 fill-charges-spec =

@@ -1,176 +1,195 @@
--- `keeps_charge` meets its contract. The invariant: the charges up to t stand in the array, and those before t are at least the floor.
+-- `keeps_charge` meets its contract: the trial's charges are those with the activity added, from where it begins to draw to the tick reached.
 -- Assumes nothing.
 use borrow.Author.Needs.{needs}
-use borrow.Author.Count.{below-more}
 use native.Mathlib.Omega.{arith}
-use native.Mathlib.Nat.{le-refl}
-use mathlib.Core.Path.{_≡_, refl, sym, ap, _∙_}
+use native.Mathlib.Nat.{eq-or-lt-of-le}
+use Prim.Native.Nat.{ℕ, _≤_, _<_, _^_}
+use mathlib.Core.Path.{_≡_, refl, sym, ap, _∙_, subst}
 use mathlib.Core.Logic.{⊎-elim}
 use mathlib.Core.Bool.{true}
-use Prim.Native.Nat.{ℕ, _+_, _-_, _*_, _<_, _≤_}
+use mathlib.Core.List.{List}
 use lib.IntN.{ℤ, pos}
-use lib.ListN.{getD}
+use lib.ListN.{length, getD, set, length-set}
+use lib.Seq.{getD-set-same}
 use lib.Signed.{leZ}
 use mir.Syntax.{w64}
 use mir.Val.{toZ, ofZ}
-use mir.Facts.{toZ-ofZ, toZ-pos}
-use Rattle.rules.proofs.Signed.{above, under, signed}
+use mir.Facts.{toZ-ofZ}
 use Rattle.rules.proofs.Tests.{both-ways}
-use Rattle.charge.specs.Charge.{drawWith, chargeNext, chargeBy, FilledBy}
-use Rattle.charge.proofs.ChargeLaws.{read-le, charge-range, draw-few, charge-first, charge-next, fill-first, fill-more, not-kept, kept-last}
+use Rattle.charge.specs.Charge.{drawMore, drawWith}
+use Rattle.charge.proofs.ChargeLaws.{read-le, charge-most, Tried, tried-first, tried-on, tried-under, tried-back, tried-last}
+use Rattle.charge.proofs.ChargeDraws.{draws-before, draws-after}
 use Rattle.charge.proofs.keeps_charge.Statement.{statement}
 use Rattle.charge.proofs.keeps_charge.Tie as tie
 
-abbrev Inv-ticks : tie.InvT-ticks
-Inv-ticks draws header own horizon floor charge₀ t₀ charge t =
-    (t ≤ header .horizon)
-    × FilledBy (chargeBy header (drawWith draws own)) (pos 0) t 4097 charge
-    × ((u : ℕ) → u < t → leZ (pos (header .floor)) (chargeBy header (drawWith draws own) u) ≡ true)
+-- the draws of the placed, and those with the activity added
+abbrev base : tie.Start → ℕ → ℕ
+base s = drawMore (s .args .draws .now) 0
 
-abbrev μ-ticks : tie.MeasureT-ticks
-μ-ticks draws header own horizon floor charge₀ t₀ charge t = header .horizon - t
+abbrev all : tie.Start → ℕ → ℕ
+all s = drawWith (s .args .draws .now) (s .args .own)
 
-abbrev start : tie.At-ticks Inv-ticks μ-ticks → tie.Start Inv-ticks μ-ticks
-start a = a .before .before .before .before .before
+floor-small : (s : tie.Start) → s .args .header .floor < 2 ^ 63
+floor-small s = search needs
 
--- the charges
-abbrev f : tie.Start Inv-ticks μ-ticks → ℕ → ℤ
-f s = chargeBy (s .args .header) (drawWith (s .args .draws .now) (s .args .own))
+handover-small : (s : tie.Start) → s .args .header .handover < 2 ^ 63
+handover-small s = search needs
 
--- the array's element at t, where the loop's test is reached
-abbrev z : tie.At-ticks Inv-ticks μ-ticks → ℕ → ℤ
-z a t = getD (a .ticks .charge) t (pos 0)
+mul-trial : tie.Need-mul-trial
+mul-trial c = search needs
 
-cast-horizon : tie.Need-cast-horizon Inv-ticks μ-ticks
-cast-horizon c = search needs
+shared-slice-copy-out-trial : tie.Need-shared-slice-copy-out-trial
+shared-slice-copy-out-trial c = search needs
 
-cast-floor : tie.Need-cast-floor Inv-ticks μ-ticks
-cast-floor c = search needs
+mul-last : tie.Need-mul-last
+mul-last c = search needs
 
-cast-charge : tie.Need-cast-charge Inv-ticks μ-ticks
-cast-charge c = search needs
+slice-set-from-last : tie.Need-slice-set-from-last
+slice-set-from-last c = search needs
 
-array-set-from-charge : tie.Need-array-set-from-charge Inv-ticks μ-ticks
-array-set-from-charge c = omega arith
+-- the trial where it begins
+abbrev begun-list : tie.Start → List ℤ
+begun-list s = set (s .args .trial .now) (s .args .own .heat) (toZ w64 (ofZ w64 (getD (s .args .base .now) (s .args .own .heat) (pos 0))))
 
-ticks-holds : tie.Need-ticks-holds Inv-ticks μ-ticks
-ticks-holds c =
+begun : (c : tie.After-trial) → Tried (c .before .before .args .header) (all (c .before .before)) (c .before .before .args .own .heat) (begun-list (c .before .before))
+begun c =
+    let s = c .before .before in
+    let b = s .pre .0 .1 in
+    tried-first (s .args .header) (base s) (all s) (s .pre .0 .0 .kept) (s .args .own .heat) (omega arith) (λ t l. draws-before _ _ t (s .pre .1 .0) l) _
+    (getD-set-same (s .args .trial .now) (s .args .own .heat) _ (pos 0) (omega (arith, s .pre .0 .2, s .pre .0 .0 .short)) ∙ toZ-ofZ (record { sfits = c .trial .given }) ∙ b .at (s .args .own .heat) (omega arith))
+
+run-own-requires : tie.Need-run-own-requires
+run-own-requires c κs =
+    let s = c .before .before .before in
+    (omega (arith, length-set (s .args .trial .now) (s .args .own .heat) (toZ w64 (ofZ w64 (getD (s .args .base .now) (s .args .own .heat) (pos 0)))), s .pre .0 .0 .known, s .pre .0 .0 .short, s .pre .0 .2), rw (begun (c .before) .at) (charge-most (s .args .header) (all s) (s .args .own .heat) (s .pre .0 .0 .first)))
+
+-- where it left the activity's ticks
+owned : (c : tie.After-run-own) → Tried (c .before .before .before .before .args .header) (all (c .before .before .before .before)) (c .run-own .result) (c .run-own .last .1 .1 .1 .0)
+owned c =
     let s = c .before .before .before .before in
-    (omega arith, fill-first (f s) (pos 0) 4097 _ refl (toZ-pos w64 {n = s .args .header .first} (omega arith) ∙ charge-first (s .args .header) (drawWith (s .args .draws .now) (s .args .own))), λ u l. absurd (omega arith))
+    tried-on (s .args .header) (base s) (all s) (s .pre .0 .0 .kept) (s .args .own .heat) (omega arith) (begun-list s) (begun (c .before .before)) (all s) _ _ (c .run-own .ensures .0 .1) (λ t _ _. refl)
 
-mul-c : tie.Need-mul-c Inv-ticks μ-ticks
-mul-c c = search needs
+own-size : (c : tie.After-run-own) → length (c .run-own .last .1 .1 .1 .0) ≡ length (c .before .before .before .before .args .trial .now)
+own-size c =
+    let s = c .before .before .before .before in
+    c .run-own .ensures .0 .1 .size ∙ length-set (s .args .trial .now) (s .args .own .heat) (toZ w64 (ofZ w64 (getD (s .args .base .now) (s .args .own .heat) (pos 0))))
 
-array-copy-out-c : tie.Need-array-copy-out-c Inv-ticks μ-ticks
-array-copy-out-c c = omega (arith, start (c .before) .pre .short)
+same-length : tie.Need-same-length
+same-length c = own-size (c .before .before)
 
-draw-with-requires : tie.Need-draw-with-requires Inv-ticks μ-ticks
-draw-with-requires c κs =
-    let s = start (c .before .before .before) in
-    (omega (arith, s .pre .known), s .pre .few _)
+returns : tie.Need-returns
+returns c =
+    let o = c .before .before in
+    let s = o .before .before .before .before in
+    sym (tried-under (s .args .header) (base s) (all s) (s .pre .0 .0 .kept) (o .run-own .result) (omega (arith, o .run-own .ensures .0 .0)) _ (owned o) (o .run-own .ensures .1 (c .if1 .taken)))
 
--- the charge at a tick is in range
-in-range : (s : tie.Start Inv-ticks μ-ticks) (t : ℕ) → (above (f s t) ≤ s .args .header .capacity) × (under (f s t) ≤ t * 8589934592)
-in-range s t = charge-range (s .args .header) (drawWith (s .args .draws .now) (s .args .own)) t (s .pre .first) (λ u. draw-few _ _ u (search needs) (search needs) (s .pre .few u))
+run-back-requires : tie.Need-run-back-requires
+run-back-requires c κs =
+    let o = c .before .before .before in
+    let s = o .before .before .before .before in
+    let z : o .run-own .result ≡ s .args .own .end = omega (arith, o .run-own .ensures .0 .0) in
+    (omega (arith, own-size o, s .pre .0 .0 .known, s .pre .0 .0 .short, s .pre .0 .2, s .pre .0 .1 .size), rw (← z) (rw (owned o .at) (charge-most (s .args .header) (all s) (o .run-own .result) (s .pre .0 .0 .first))))
 
--- what the machine reads at t is the charge at t
-read-is : (c : tie.After-c Inv-ticks μ-ticks) → toZ w64 (ofZ w64 (z (c .before .before) (c .before .before .ticks .t))) ≡ f (start (c .before .before)) (c .before .before .ticks .t)
-read-is c = toZ-ofZ (record { sfits = c .c .given }) ∙ c .before .before .ticks .inv .1 .at _ (le-refl _)
+-- where it ended
+abbrev own : tie.After-run-back → tie.After-run-own
+own c = c .before .before .before .before
 
-step-requires : tie.Need-step-requires Inv-ticks μ-ticks
-step-requires c κs =
-    let i = c .before .before in
-    let a = i .before .before in
-    let r = in-range (start a) (a .ticks .t) in
-    rw (read-is i) (omega (signed, r .0, r .1, c .draw-with .ensures .1))
+abbrev start : tie.After-run-back → tie.Start
+start c = own c .before .before .before .before
 
-add-charge : tie.Need-add-charge Inv-ticks μ-ticks
-add-charge c = omega arith
+late : (c : tie.After-run-back) → c .run-back .result ≤ start c .args .header .horizon
+late c = c .run-back .ensures .0 .0
 
-mul-charge : tie.Need-mul-charge Inv-ticks μ-ticks
-mul-charge c = omega arith
+tried : (c : tie.After-run-back) → Tried (start c .args .header) (all (start c)) (c .run-back .result) (c .run-back .last .1 .1 .1 .1 .0)
+tried c =
+    let s = start c in
+    let z : own c .run-own .result ≡ s .args .own .end = omega (arith, own c .run-own .ensures .0 .0, c .before .before .if1 .left) in
+    tried-on (s .args .header) (base s) (all s) (s .pre .0 .0 .kept) (s .args .own .end) (s .pre .1 .2) _ (subst (λ (t : ℕ). Tried (s .args .header) (all s) t (own c .run-own .last .1 .1 .1 .0)) z (owned (own c))) (base s) _ _ (c .run-back .ensures .0 .1) (λ t k l. draws-after _ _ t (s .pre .1 .1) k)
 
-array-set-from-charge-2 : tie.Need-array-set-from-charge-2 Inv-ticks μ-ticks
-array-set-from-charge-2 c = omega (arith, start (c .before .before .before .before .before) .pre .short)
+back-size : (c : tie.After-run-back) → length (c .run-back .last .1 .1 .1 .1 .0) ≡ length (start c .args .trial .now)
+back-size c = c .run-back .ensures .0 .1 .size ∙ own-size (own c)
 
-add-t : tie.Need-add-t Inv-ticks μ-ticks
-add-t c = omega arith
+-- what is read there is the charge
+abbrev z : tie.After-run-back → ℤ
+z c = getD (c .run-back .last .1 .1 .1 .1 .0) (c .run-back .result) (pos 0)
 
-ticks-less : tie.Need-ticks-less Inv-ticks μ-ticks
-ticks-less c = omega arith
+mul-last-2 : tie.Need-mul-last-2
+mul-last-2 c = search needs
 
--- what is stored is the next charge
-stored-is : (c : tie.After-step Inv-ticks μ-ticks) → toZ w64 (ofZ w64 (c .step .result)) ≡ f (start (c .before .before .before .before .before)) (c .before .before .before .before .before .ticks .t + 1)
-stored-is c =
-    let i = c .before .before .before in
-    let s = start (i .before .before) in
-    toZ-ofZ (record { sfits = c .step .ok }) ∙ c .step .ensures ∙ (λ k. chargeNext (s .args .header .capacity) (s .args .header .rate) (c .before .draw-with .ensures .0 k) (read-is i k)) ∙ sym (charge-next (s .args .header) (drawWith (s .args .draws .now) (s .args .own)) (i .before .before .ticks .t))
+slice-copy-out-last : tie.Need-slice-copy-out-last
+slice-copy-out-last c = omega (arith, back-size (c .before), late (c .before), start (c .before) .pre .0 .0 .short, start (c .before) .pre .0 .2)
 
-ticks-again : tie.Need-ticks-again Inv-ticks μ-ticks
-ticks-again c =
-    let i = c .before .before .before in
-    let a = i .before .before in
-    let s = start a in
-    let at : f s (a .ticks .t) ≡ z a (a .ticks .t) = sym (a .ticks .inv .1 .at _ (le-refl _)) in (
-      omega arith,
-      fill-more (f s) (pos 0) _ 4097 _ _ (a .ticks .inv .1) (omega (arith, s .pre .short)) (stored-is c),
-      below-more _ _ (a .ticks .inv .2) (ap (λ (x : ℤ). leZ (pos (s .args .header .floor)) x) at ∙ sym (read-le (s .args .header .floor) (z a (a .ticks .t)) (search needs) (i .c .given)) ∙ c .before .before .if1 .taken),
-    )
+mul-b : tie.Need-mul-b
+mul-b c = search needs
 
-mul-last : tie.Need-mul-last Inv-ticks μ-ticks
-mul-last c = omega arith
+shared-slice-copy-out-b : tie.Need-shared-slice-copy-out-b
+shared-slice-copy-out-b c = search needs
 
-array-copy-out-last : tie.Need-array-copy-out-last Inv-ticks μ-ticks
-array-copy-out-last c = omega (arith, start (c .before) .pre .short)
+same-length-2 : tie.Need-same-length-2
+same-length-2 c = back-size (c .before .before .before .before)
 
-cast-result : tie.Need-cast-result Inv-ticks μ-ticks
+returns-2 : tie.Need-returns-2
+returns-2 c =
+    let b = c .before in
+    let r = b .before .before .before in
+    let s = start r in
+    sym (tried-back (s .args .header) (base s) (all s) (s .pre .0 .0 .kept) (r .run-back .result) (late r) _ (tried r)
+    (sym (toZ-ofZ {w = w64} {z = z r} (record { sfits = b .before .last .given })) ∙ ap (toZ w64) (c .if2 .taken) ∙ toZ-ofZ (record { sfits = b .b .given }) ∙ s .pre .0 .1 .at _ (late r))
+    (λ t k. draws-after _ _ t (s .pre .1 .1) (omega (arith, r .run-back .ensures .0 .1 .began))))
+
+cast-if3 : tie.Need-cast-if3
+cast-if3 c = search needs
+
+cast-result : tie.Need-cast-result
 cast-result c = search needs
 
-returns : tie.Need-returns Inv-ticks μ-ticks
-returns c =
-    let l = c .before .before in
-    let a = l .before .before in
-    let s = start a in
-    ⊎-elim
-    (λ w.
-    let e : a .ticks .t ≡ s .args .header .horizon = omega arith in
-    read-le (s .args .header .handover) (z a (a .ticks .t)) (omega (arith, c .struct-known4 .given .1 .1 .1 .1 .1 .1 .0)) (l .last .given)
-    ∙ ap (λ (x : ℤ). leZ (pos (s .args .header .handover)) x) (a .ticks .inv .1 .at _ (le-refl _) ∙ ap (f s) e)
-    ∙ sym (kept-last (s .args .header) (drawWith (s .args .draws .now) (s .args .own)) (λ t h. below-more (λ u. leZ (pos (s .args .header .floor)) (f s u) ≡ true) (a .ticks .t) (a .ticks .inv .2) (ap (λ (x : ℤ). leZ (pos (s .args .header .floor)) x) (sym (a .ticks .inv .1 .at _ (le-refl _))) ∙ sym (read-le (s .args .header .floor) (z a (a .ticks .t)) (search needs) (l .last .given)) ∙ c .before .if2 .taken) t (omega arith))))
-    (λ w. absurd (both-ways (c .before .if2 .taken) (w .2 .left)))
-    (l .before .ticks-test .came)
+same-length-3 : tie.Need-same-length-3
+same-length-3 c = back-size (c .before .before .before .before .before .before .before)
 
-returns-2 : tie.Need-returns-2 Inv-ticks μ-ticks
-returns-2 c =
-    let l = c .before in
-    let a = l .before .before in
-    let s = start a in
-    sym (not-kept (s .args .header) (drawWith (s .args .draws .now) (s .args .own)) (a .ticks .t) (a .ticks .inv .0)
-    (ap (λ (x : ℤ). leZ (pos (s .args .header .floor)) x) (sym (a .ticks .inv .1 .at _ (le-refl _))) ∙ sym (read-le (s .args .header .floor) (z a (a .ticks .t)) (search needs) (l .last .given)) ∙ c .if2 .left))
+returns-3 : tie.Need-returns-3
+returns-3 c =
+    let t = c .before in
+    let e = t .before .before in
+    let b = e .before in
+    let r = b .before .before .before in
+    let s = start r in
+    let f : leZ (pos (s .args .header .floor)) (z r) ≡ true = sym (read-le (s .args .header .floor) (z r) (floor-small s) (b .before .last .given)) ∙ t .if3 .taken in
+    let n : r .run-back .result ≡ s .args .header .horizon =
+    ⊎-elim (λ e. e) (λ l. absurd (⊎-elim (both-ways f) (λ q. e .if2 .left (ap (ofZ w64) q)) (r .run-back .ensures .1 l))) (eq-or-lt-of-le (late r)) in
+    read-le (s .args .header .handover) (z r) (handover-small s) (b .before .last .given) ∙ sym (tried-last (s .args .header) (base s) (all s) (s .pre .0 .0 .kept) (r .run-back .result) (late r) _ (tried r) n f)
+
+same-length-4 : tie.Need-same-length-4
+same-length-4 c = back-size (c .before .before .before .before .before .before)
+
+returns-4 : tie.Need-returns-4
+returns-4 c =
+    let b = c .before .before .before in
+    let r = b .before .before .before in
+    let s = start r in
+    sym (tried-under (s .args .header) (base s) (all s) (s .pre .0 .0 .kept) (r .run-back .result) (late r) _ (tried r)
+    (sym (read-le (s .args .header .floor) (z r) (floor-small s) (b .before .last .given)) ∙ c .if3 .left))
 
 pub keeps-charge-spec : {M : Type 1} → statement M
 keeps-charge-spec =
     tie.close
     (tie.spec
-    Inv-ticks
-    μ-ticks
-    cast-horizon
-    cast-floor
-    cast-charge
-    array-set-from-charge
-    ticks-holds
-    mul-c
-    array-copy-out-c
-    draw-with-requires
-    step-requires
-    add-charge
-    mul-charge
-    array-set-from-charge-2
-    add-t
-    ticks-less
-    ticks-again
+    mul-trial
+    shared-slice-copy-out-trial
     mul-last
-    array-copy-out-last
-    cast-result
+    slice-set-from-last
+    run-own-requires
+    same-length
     returns
-    returns-2)
+    run-back-requires
+    mul-last-2
+    slice-copy-out-last
+    mul-b
+    shared-slice-copy-out-b
+    same-length-2
+    returns-2
+    cast-if3
+    cast-result
+    same-length-3
+    returns-3
+    same-length-4
+    returns-4)

@@ -4,7 +4,7 @@ use borrow.Author.Needs.{needs}
 use native.Mathlib.Omega.{arith}
 use native.Mathlib.Nat.{le-refl}
 use Prim.Native.Nat.{_^_}
-use mathlib.Core.Path.{_≡_, refl, sym, _∙_}
+use mathlib.Core.Path.{_≡_, refl, _∙_}
 use lib.IntN.{ℤ, pos}
 use lib.ListN.{getD}
 use lib.Dec.{T}
@@ -37,7 +37,7 @@ fill-charges-requires : tie.Need-fill-charges-requires
 fill-charges-requires c κs =
     let p = c .before .before .before in
     let s = p .before .before in
-    (drawing _ _ _ (p .add-placed .ensures) (s .pre .0) (s .pre .1) (p .add-placed .kept .1 .1 .0), refl)
+    (drawing _ _ _ (p .add-placed .ensures) (s .pre .0) (p .add-placed .kept .1 .1 .0), refl)
 
 cast-horizon : tie.Need-cast-horizon
 cast-horizon c = search needs
@@ -62,7 +62,7 @@ read-is c = toZ-ofZ (record { sfits = c .last .given })
 last-is : (c : tie.After-last) → z c ≡ charge (headerView (begin c .args .header)) (scheduleView (begin c .args .schedule)) (begin c .args .header .horizon)
 last-is c =
     let f = c .before .before .before in
-    f .fill-charges .ensures _ (le-refl _) ∙ base-is _ _ _ (f .before .before .before .before .add-placed .ensures) _
+    f .fill-charges .ensures .at _ (le-refl _) ∙ base-is _ _ _ (f .before .before .before .before .add-placed .ensures) _
 
 not-under : (c : tie.After-last) → T (nonNeg (z c))
 unfolding headerView

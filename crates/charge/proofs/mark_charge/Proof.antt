@@ -1,8 +1,6 @@
 -- `mark_charge` meets its contract: the draws of the placed are the definition's, so each trial is condition B.
 -- Assumes nothing.
 use mathlib.Core.Path.{refl, sym}
-use native.Mathlib.Omega.{arith}
-use Rattle.plan.specs.View.{headerView}
 use Rattle.placed.proofs.Marking.{same-marked}
 use Rattle.charge.proofs.ChargeDraws.{zeros, drawing, meets-is}
 use borrow.Author.Needs.{needs}
@@ -21,12 +19,10 @@ slice-aggregate-mark-trials : tie.Need-slice-aggregate-mark-trials
 slice-aggregate-mark-trials c = sym (c .before .before .add-placed .kept .1 .1 .0)
 
 mark-trials-requires : tie.Need-mark-trials-requires
-unfolding headerView
 mark-trials-requires c κs =
     let p = c .before .before .before in
     let s = p .before .before .before in
-    let r = s .pre .0 .reached in
-    (drawing _ _ _ (p .add-placed .ensures) r (s .pre .0 .few) (p .add-placed .kept .1 .1 .0), (omega (arith, s .pre .1 .0, r .header .horizon), s .pre .1 .1))
+    (drawing _ _ _ (p .add-placed .ensures) (s .pre .0 .reached) (p .add-placed .kept .1 .1 .0), s .pre .1)
 
 same-length : tie.Need-same-length
 same-length c = search needs

@@ -2,30 +2,21 @@
 -- Assumes nothing.
 use borrow.Author.Needs.{needs}
 use native.Mathlib.Omega.{arith}
-use mathlib.Core.Path.{_≡_, refl, sym, ap, _∙_}
-use Prim.Native.Nat.{ℕ, _+_, _-_, _≤_}
-use lib.IntN.{ℤ, pos}
-use lib.ListN.{length, getD, length-set}
-use lib.Seq.{getD-set-same}
-use lib.Signed.{leZ, _≤ℤ_}
+use mathlib.Core.Path.{sym, ap, _∙_}
+use Prim.Native.Nat.{_+_, _-_, _≤_}
 use mir.Syntax.{w64}
-use mir.Val.{toZ, ofZ}
-use mir.Facts.{toZ-ofZ, toZ-pos}
+use mir.Val.{toZ}
 use Rattle.rules.proofs.Signed.{signed}
-use Rattle.charge.specs.Charge.{drawMore, chargeNext, Ran}
-use Rattle.charge.proofs.ChargeLaws.{ran-none, ran-more, next-most, cast-le, le-true}
+use Rattle.charge.specs.Charge.{drawMore, chargeNext}
+use Rattle.charge.proofs.ChargeLaws.{AtTick, tick-first, tick-floor, tick-range, tick-more}
 use Rattle.charge.proofs.run_ticks.Statement.{statement}
 use Rattle.charge.proofs.run_ticks.Tie as tie
 
 abbrev Inv-ticks : tie.InvT-ticks
-Inv-ticks draws header by from to charge₀ floor more t₀ c₀ charge t c =
-    (t ≤ to) × (toZ w64 c ≡ getD charge t (pos 0)) × (toZ w64 c ≤ℤ pos (header .capacity)) × Ran header (drawMore draws by) from t charge₀ charge
+Inv-ticks draws header by from to charge₀ floor more t₀ c₀ charge t c = (t ≤ to) × AtTick header (drawMore draws by) from t c charge₀ charge
 
 abbrev μ-ticks : tie.MeasureT-ticks
 μ-ticks draws header by from to charge₀ floor more t₀ c₀ charge t c = to - t
-
-abbrev start : tie.At-ticks Inv-ticks μ-ticks → tie.Start Inv-ticks μ-ticks
-start a = a .before .before .before .before
 
 cast-floor : tie.Need-cast-floor Inv-ticks μ-ticks
 cast-floor c = search needs
@@ -39,19 +30,13 @@ slice-copy-out-c c = omega arith
 ticks-holds : tie.Need-ticks-holds Inv-ticks μ-ticks
 ticks-holds c =
     let s = c .before .before .before in
-    let e : toZ w64 (ofZ w64 (getD (s .args .charge .now) (s .args .from) (pos 0))) ≡ getD (s .args .charge .now) (s .args .from) (pos 0) =
-    toZ-ofZ (record { sfits = c .c .given }) in
-    (s .pre .0 .0, e, rw e (s .pre .1), ran-none _ _ _ _)
+    (s .pre .0 .0, tick-first _ _ _ _ (search needs) (c .c .given) (s .pre .1))
 
 mul-wide : tie.Need-mul-wide Inv-ticks μ-ticks
 mul-wide c = omega arith
 
 shared-slice-read-wide : tie.Need-shared-slice-read-wide Inv-ticks μ-ticks
 shared-slice-read-wide c = omega arith
-
--- whether the charge at t is at least the floor
-floor-le : (a : tie.At-ticks Inv-ticks μ-ticks) → leZ (toZ w64 (start a .args .header .floor)) (toZ w64 (a .ticks .c)) ≡ leZ (pos (start a .args .header .floor)) (getD (a .ticks .charge) (a .ticks .t) (pos 0))
-floor-le a = cast-le (start a .args .header .floor) (toZ w64 (a .ticks .c)) (search needs) ∙ ap (leZ (pos (start a .args .header .floor))) (a .ticks .inv .1)
 
 wide-requires : tie.Need-wide-requires Inv-ticks μ-ticks
 wide-requires c κs = tt
@@ -61,9 +46,9 @@ add-d c = omega arith
 
 step-requires : tie.Need-step-requires Inv-ticks μ-ticks
 step-requires c κs =
-    let a = c .before .before .before .before in
-    let low = le-true (pos (start a .args .header .floor)) (toZ w64 (a .ticks .c)) (sym (cast-le (start a .args .header .floor) (toZ w64 (a .ticks .c)) (search needs)) ∙ c .before .before .if1 .taken) in
-    omega (signed, low, a .ticks .inv .2)
+    let i = c .before .before in
+    let r = tick-range _ _ _ _ _ _ _ (i .before .before .ticks .inv .1) (i .if1 .taken) in
+    omega (signed, r .0, r .1)
 
 add-t : tie.Need-add-t Inv-ticks μ-ticks
 add-t c = omega arith
@@ -72,7 +57,7 @@ mul-c-2 : tie.Need-mul-c-2 Inv-ticks μ-ticks
 mul-c-2 c = omega arith
 
 slice-set-from-c : tie.Need-slice-set-from-c Inv-ticks μ-ticks
-slice-set-from-c c = omega arith
+slice-set-from-c c = omega (arith, c .before .before .before .before .before .ticks .inv .1 .ran .size)
 
 ticks-less : tie.Need-ticks-less Inv-ticks μ-ticks
 ticks-less c = omega arith
@@ -82,28 +67,25 @@ unfolding drawMore
 ticks-again c =
     let i = c .before .before .before in
     let a = i .before .before in
-    let s = start a in
-    let e : toZ w64 (ofZ w64 (c .step .result)) ≡ chargeNext (s .args .header .capacity) (s .args .header .rate) (drawMore (s .args .draws .now) (s .args .by) (a .ticks .t)) (getD (a .ticks .charge) (a .ticks .t) (pos 0)) =
-    toZ-ofZ (record { sfits = c .step .ok }) ∙ c .step .ensures ∙ (λ k. chargeNext (s .args .header .capacity) (s .args .header .rate) (c .before .wide .ensures .0 k + s .args .by) (a .ticks .inv .1 k)) in (
+    let s = a .before .before .before .before in (
       omega arith,
-      sym (getD-set-same (a .ticks .charge) (a .ticks .t + 1) _ (pos 0) (omega (arith, a .ticks .inv .3 .size))),
-      rw e (next-most _ _ _ _),
-      ran-more _ _ _ _ _ _ _ (a .ticks .inv .3) (omega (arith, a .ticks .inv .3 .size)) (sym (floor-le a) ∙ i .if1 .taken) e,
+      tick-more _ _ _ _ _ _ _ (a .ticks .inv .1) (i .if1 .taken) _ (omega arith) (c .step .ok)
+          (c .step .ensures ∙ ap (λ d. chargeNext (s .args .header .capacity) (s .args .header .rate) (d + s .args .by) (toZ w64 (a .ticks .c))) (c .before .wide .ensures .0)),
     )
 
 same-length : tie.Need-same-length Inv-ticks μ-ticks
-same-length c = c .before .ticks .inv .3 .size
+same-length c = c .before .ticks .inv .1 .ran .size
 
 returns : tie.Need-returns Inv-ticks μ-ticks
-returns c = ((c .before .ticks .inv .0, c .before .ticks .inv .3), λ l. absurd (omega arith))
+returns c = ((c .before .ticks .inv .0, c .before .ticks .inv .1 .ran), λ l. absurd (omega arith))
 
 same-length-2 : tie.Need-same-length-2 Inv-ticks μ-ticks
-same-length-2 c = c .before .before .ticks .inv .3 .size
+same-length-2 c = c .before .before .ticks .inv .1 .ran .size
 
 returns-2 : tie.Need-returns-2 Inv-ticks μ-ticks
 returns-2 c =
     let a = c .before .before in
-    ((a .ticks .inv .0, a .ticks .inv .3), λ _. sym (floor-le a) ∙ c .if1 .left)
+    ((a .ticks .inv .0, a .ticks .inv .1 .ran), λ _. sym (tick-floor _ _ _ _ _ _ _ (a .ticks .inv .1)) ∙ c .if1 .left)
 
 pub run-ticks-spec : {M : Type 1} → statement M
 run-ticks-spec =

@@ -1,0 +1,111 @@
+// What the planner prints for a plan, and the calls of report.
+use super::answer;
+use rules::CountAnswer;
+
+// What a lent byte holds before a call; no report has it.
+const MARK: u8 = b'#';
+
+// Whether every byte from `from` on is as it was lent.
+fn left_from(out: &[u8; 4608], from: usize) -> bool {
+    let mut i = from;
+    while i < 4608 {
+        if out[i] != MARK {
+            return false;
+        }
+        i += 1;
+    }
+    true
+}
+
+// Whether two reports have the same first n bytes.
+fn same_to<'a>(one: &'a [u8; 4608], other: &'a [u8; 4608], n: usize) -> bool {
+    let mut i = 0;
+    while i < n {
+        if 4608 <= i {
+            return false;
+        }
+        if one[i] != other[i] {
+            return false;
+        }
+        i += 1;
+    }
+    true
+}
+
+// Prints the first n bytes.
+fn put_printed(out: [u8; 4608], n: usize) {
+    if 4608 < n {
+        answer::wrong(b"the length of what is printed");
+        return;
+    }
+    answer::put_word(&out[0..n]);
+}
+
+// Checks that a refused report has this number and leaves the lent bytes.
+fn check_refused(out: &[u8; 4608], answer: CountAnswer, number: u32) {
+    if answer::number_of(answer) != number {
+        answer::wrong(b"the refusal of a report");
+    }
+    if !left_from(out, 0) {
+        answer::wrong(b"the bytes of a refused report");
+    }
+}
+
+// Checks a report of n bytes against what is printed, and that it leaves the bytes behind them.
+fn check_written<'a>(out: &'a [u8; 4608], printed: &'a [u8; 4608], n: usize) {
+    if !same_to(out, printed, n) {
+        answer::wrong(b"the report is not what is printed");
+    }
+    if !left_from(out, n) {
+        answer::wrong(b"the bytes behind the report");
+    }
+}
+
+// Checks the report into less bytes than it has.
+fn check_short(plan: &[u8], room: usize) {
+    if 4608 < room {
+        return;
+    }
+    let mut out = [MARK; 4608];
+    let answer = calls::report(plan, &mut out[0..room]);
+    check_refused(&out, answer, 10);
+}
+
+// Checks the report into more bytes than it has.
+fn check_report(plan: &[u8], printed: &[u8; 4608], length: usize) {
+    let mut out = [MARK; 4608];
+    let answer = calls::report(plan, &mut out);
+    let CountAnswer::Count(n) = answer else {
+        check_refused(&out, answer, answer::number_of(answer));
+        return;
+    };
+    if n != length {
+        answer::wrong(b"the report's length");
+    }
+    check_written(&out, printed, n);
+    if 0 < n {
+        check_short(plan, n - 1);
+    }
+}
+
+// Prints the answer of report into no bytes.
+fn answer_no_room(plan: &[u8]) {
+    let mut out = [MARK; 4608];
+    let answer = calls::report(plan, &mut out[..0]);
+    answer::put_word(b"report");
+    answer::put_count(answer);
+    answer::end_line();
+    check_refused(&out, answer, answer::number_of(answer));
+}
+
+// Prints what the planner prints, and the answer of report into no bytes.
+pub fn answer_reports(plan: &[u8]) {
+    let mut out = [MARK; 4608];
+    let n = calls::output(plan, &mut out);
+    put_printed(out, n);
+    if !left_from(&out, n) {
+        answer::wrong(b"the bytes behind what is printed");
+    }
+    check_report(plan, &out, n);
+    answer_no_room(plan);
+}
