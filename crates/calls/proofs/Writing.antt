@@ -6,7 +6,7 @@ use mathlib.Core.Bool.{Bool, true, false, cond}
 use mathlib.Core.List.{List, [], _∷_}
 use native.Mathlib.Omega.{arith}
 use lib.Dec.{leb}
-use lib.ListN.{length, take}
+use lib.ListN.{length, take, length-take}
 use lib.Seq.{take-append-seam}
 use borrow.Author.Tests.{leb-true, leb-false}
 use Rattle.rules.specs.Report.{output}
@@ -40,6 +40,10 @@ module _ (text lent after : List ℕ) (e : after ≡ cond (leb (length text) (le
 pub slice-as : (f g : Filled ℕ) → f ≡ g → (lent after : List ℕ) (r : CountAnswer) → SliceFilled g lent r after → SliceFilled f lent r after
 slice-as f g e lent after r F = rw e F
 
--- what the program prints
-pub printed : (s w lent after : List ℕ) (r : ℕ) → output s ≡ w → Wrote lent 0 w after r → OutputCalled s lent r after
-printed s w lent after r e W = let n : r ≡ length w = omega (arith, W .behind) in record { answer = n ∙ ap length (sym e); slice = W .holds ∙ front lent w ∙ ap (λ v. sliceAfter v lent) (sym e) }
+-- what the program prints, and that it stands within the slice
+pub printed : (s w lent after : List ℕ) (r : ℕ) → output s ≡ w → Wrote lent 0 w after r → OutputCalled s lent r after × ((r ≤ length after) × (r ≡ length (take r after)))
+printed s w lent after r e W =
+    let n : r ≡ length w = omega (arith, W .behind) in
+    let a : after ≡ sliceAfter w lent = W .holds ∙ front lent w in
+    let t : r ≡ length (take r after) = n ∙ ap length (sym (front-is lent w after r W)) in
+    (record { answer = n ∙ ap length (sym e); slice = a ∙ ap (λ v. sliceAfter v lent) (sym e) }, (omega (arith, t, length-take r after), t))

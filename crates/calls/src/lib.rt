@@ -2,7 +2,7 @@
 ghost use mathlib.Core.Path.{_≡_};
 ghost use mathlib.Core.Bool.{true, cond};
 ghost use Prim.Native.Nat.{_<_, _≤_, min};
-ghost use lib.ListN.{length};
+ghost use lib.ListN.{length, take};
 ghost use Rattle.rules.specs.Calls.{countTerms, refusal, sliceAfter, filling, runs};
 ghost use Rattle.plan.specs.View.{planView};
 ghost use Rattle.rules.specs.Runs.{runsFrom};
@@ -158,7 +158,8 @@ pub fn starts(
 
 // What the program prints, the report or the `no` line, written to the front of `out`; answers its length.
 pub fn output(bytes: &[u8], out: &mut [u8; 4608]) -> usize
-    ensures { λ r. ⌜ OutputCalled (now (bytes .entry)) (now (out .entry)) r (now (out .exit)) × (r ≤ 4608) ⌝ }
+    ensures { λ r. ⌜ OutputCalled (now (bytes .entry)) (now (out .entry)) r (now (out .exit)) ⌝ }
+    ensures { λ r. ⌜ (r ≤ length (now (out .exit))) × (r ≡ length (take r (now (out .exit)))) ⌝ }
 {
     let reading = read(bytes);
     if reading.number != 0 {

@@ -25,7 +25,7 @@ returns : tie.Need-returns
 unfolding noLine noText
 returns c =
     let read = c .before .before .before .before .before .before .read in
-    (printed _ _ _ _ _ (output-refused _ _ _ (read .ensures .refused (λ e. omega arith))) (c .put-no .ensures .0), omega (arith, c .put-no .ensures .1))
+    printed _ _ _ _ _ (output-refused _ _ _ (read .ensures .refused (λ e. omega arith))) (c .put-no .ensures .0)
 
 put-report-requires : tie.Need-put-report-requires
 put-report-requires c κs = let read = c .before .before .before .read in read .ensures .accepted (omega arith) .placeable
@@ -33,7 +33,7 @@ put-report-requires c κs = let read = c .before .before .before .read in read .
 returns-2 : tie.Need-returns-2
 returns-2 c =
     let read = c .before .before .before .before .read in
-    (printed _ _ _ _ _ (output-answered _ _ (read .ensures .accepted (omega arith))) (c .put-report .ensures .0), c .put-report .ensures .1)
+    printed _ _ _ _ _ (output-answered _ _ (read .ensures .accepted (omega arith))) (c .put-report .ensures .0)
 
 pub output-spec : {M : Type 1} → statement M
 output-spec =
