@@ -16,11 +16,11 @@ use rules::CountAnswer;
 use rules::OutcomeAnswer;
 use rules::Refusal;
 
-// A refusal of the call itself.
-fn refuse(number: u32) -> CountAnswer
-    ensures { λ r. ⌜ countTerms r ≡ refusal number 0 ⌝ }
+// A refusal in place of a count.
+fn refuse(number: u32, line: u32) -> CountAnswer
+    ensures { λ r. ⌜ countTerms r ≡ refusal number line ⌝ }
 {
-    CountAnswer::No(Refusal { number, line: 0 })
+    CountAnswer::No(Refusal { number, line })
 }
 
 // What the plan's bytes say.
@@ -71,7 +71,7 @@ fn hand_over(text: &[u8], out: &mut [u8]) -> CountAnswer
     if fits {
         return CountAnswer::Count(text.len());
     }
-    refuse(10)
+    refuse(10, 0)
 }
 
 // The report, written to the front of `out`; answers its length.
@@ -80,11 +80,7 @@ pub fn report(bytes: &[u8], out: &mut [u8]) -> CountAnswer
 {
     let reading = read(bytes);
     if reading.number != 0 {
-        let refusal = Refusal {
-            number: reading.number,
-            line: reading.line,
-        };
-        return CountAnswer::No(refusal);
+        return refuse(reading.number, reading.line);
     }
     let mut written = [0u8; 4608];
     let length = report::whole::put_report(reading.plan, &mut written);
@@ -104,10 +100,10 @@ fn write_runs(
 {
     let runs = schedule::runs::count_runs(table, count, set);
     if firsts.len() < runs {
-        return refuse(10);
+        return refuse(10, 0);
     }
     if lasts.len() < runs {
-        return refuse(10);
+        return refuse(10, 0);
     }
     schedule::runs::write_column(table, count, set, runs, true, firsts);
     schedule::runs::write_column(table, count, set, runs, false, lasts);
@@ -139,19 +135,15 @@ pub fn starts(
 {
     let reading = read(bytes);
     if reading.number != 0 {
-        let refusal = Refusal {
-            number: reading.number,
-            line: reading.line,
-        };
-        return CountAnswer::No(refusal);
+        return refuse(reading.number, reading.line);
     }
     let plan = reading.plan;
     let count = plan.count;
     if count <= place {
-        return refuse(11);
+        return refuse(11, 0);
     }
     if 511 < set {
-        return refuse(12);
+        return refuse(12, 0);
     }
     runs_at(plan, place, set, firsts, lasts)
 }

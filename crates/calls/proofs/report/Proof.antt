@@ -1,12 +1,12 @@
 -- `report` meets its contract.
 -- Assumes nothing.
 use Prim.Native.Nat.{ℕ}
-use mathlib.Core.Path.{refl, sym, _∙_, ap}
+use mathlib.Core.Path.{sym, _∙_, ap}
 use native.Mathlib.Omega.{arith}
 use borrow.Author.Needs.{needs}
 use lib.ListN.{length-replicate}
 use lib.Seq.{length-take-le}
-use Rattle.rules.specs.Calls.{countTerms, filling}
+use Rattle.rules.specs.Calls.{filling}
 use Rattle.report.proofs.Writing.{wrote-length}
 use Rattle.calls.proofs.Answering.{report-refused, report-answered}
 use Rattle.calls.proofs.Running.{slice-kept}
@@ -17,9 +17,11 @@ use Rattle.calls.proofs.report.Tie as tie
 read-requires : tie.Need-read-requires
 read-requires c κs = search needs
 
+refuse-requires : tie.Need-refuse-requires
+refuse-requires c κs = search needs
+
 returns : tie.Need-returns
-unfolding countTerms
-returns c = let read = c .before .before .read in slice-kept _ _ _ (report-refused _ _ _ (read .ensures .refused (λ e. omega arith)) _) _ _ refl
+returns c = let read = c .before .before .before .read in slice-kept _ _ _ (report-refused _ _ _ (read .ensures .refused (λ e. omega arith)) _) _ _ (c .refuse .ensures)
 
 put-report-requires : tie.Need-put-report-requires
 put-report-requires c κs = let read = c .before .before .before .read in read .ensures .accepted (omega arith) .placeable
@@ -55,6 +57,7 @@ report-spec =
     tie.close
     (tie.spec
     read-requires
+    refuse-requires
     returns
     put-report-requires
     array-share-prefix-written

@@ -1,9 +1,7 @@
 -- `starts` meets its contract.
 -- Assumes nothing.
-use mathlib.Core.Path.{refl}
 use native.Mathlib.Omega.{arith}
 use borrow.Author.Needs.{needs}
-use Rattle.rules.specs.Calls.{countTerms}
 use Rattle.calls.proofs.Answering.{starts-refused, starts-beyond, starts-no-set, starts-answered}
 use Rattle.calls.proofs.Running.{columns-kept, columns-as}
 use Rattle.calls.proofs.starts.Statement.{statement}
@@ -12,25 +10,27 @@ use Rattle.calls.proofs.starts.Tie as tie
 read-requires : tie.Need-read-requires
 read-requires c κs = search needs
 
-returns : tie.Need-returns
-unfolding countTerms
-returns c = let read = c .before .before .read in columns-kept _ _ _ (starts-refused _ _ _ (read .ensures .refused (λ e. omega arith)) _ _ _) _ _ _ refl
-
 refuse-requires : tie.Need-refuse-requires
 refuse-requires c κs = search needs
 
-returns-2 : tie.Need-returns-2
-returns-2 c =
-    let read = c .before .before .before .before .before .read in
-    columns-kept _ _ _ (starts-beyond _ _ (read .ensures .accepted (omega arith)) _ _ _ (omega arith)) _ _ _ (c .refuse .ensures)
+returns : tie.Need-returns
+returns c = let read = c .before .before .before .read in columns-kept _ _ _ (starts-refused _ _ _ (read .ensures .refused (λ e. omega arith)) _ _ _) _ _ _ (c .refuse .ensures)
 
 refuse-requires-2 : tie.Need-refuse-requires-2
 refuse-requires-2 c κs = search needs
 
+returns-2 : tie.Need-returns-2
+returns-2 c =
+    let read = c .before .before .before .before .before .read in
+    columns-kept _ _ _ (starts-beyond _ _ (read .ensures .accepted (omega arith)) _ _ _ (omega arith)) _ _ _ (c .refuse2 .ensures)
+
+refuse-requires-3 : tie.Need-refuse-requires-3
+refuse-requires-3 c κs = search needs
+
 returns-3 : tie.Need-returns-3
 returns-3 c =
     let read = c .before .before .before .before .before .before .read in
-    columns-kept _ _ _ (starts-no-set _ _ (read .ensures .accepted (omega arith)) _ _ _ (omega arith) (omega arith)) _ _ _ (c .refuse2 .ensures)
+    columns-kept _ _ _ (starts-no-set _ _ (read .ensures .accepted (omega arith)) _ _ _ (omega arith) (omega arith)) _ _ _ (c .refuse3 .ensures)
 
 runs-at-requires : tie.Need-runs-at-requires
 runs-at-requires c κs = let read = c .before .before .before .before .before .before .before .read in (read .ensures .accepted (omega arith) .placeable, omega arith)
@@ -52,10 +52,11 @@ starts-spec =
     tie.close
     (tie.spec
     read-requires
-    returns
     refuse-requires
-    returns-2
+    returns
     refuse-requires-2
+    returns-2
+    refuse-requires-3
     returns-3
     runs-at-requires
     same-length
