@@ -1,9 +1,5 @@
-pub mod Marks
-pub mod Places
 pub mod Allowed
 pub mod Ended
-pub mod Loads
-pub mod Clear
 pub mod Volumes
 pub mod MetSets
 pub mod Picked

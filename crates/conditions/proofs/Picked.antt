@@ -20,7 +20,7 @@ use Rattle.placed.specs.declared.Schedule.{Schedule as ScheduleStruct}
 use Rattle.placed.specs.Ready.{Ready}
 use Rattle.placed.specs.Marked.{Marked, Room, Table, metBelow, metSet, bitOf}
 use Rattle.placed.proofs.Marking.{same-marked}
-use Rattle.conditions.proofs.Places.{starts-few}
+use Rattle.placed.proofs.Places.{starts-few}
 use Rattle.conditions.proofs.MetSets.{met-more, met-none, met-low}
 
 -- a number that is none of the first n

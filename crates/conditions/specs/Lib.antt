@@ -1,3 +1,1 @@
-pub mod Quantity
 pub mod Ended
-pub mod Clear

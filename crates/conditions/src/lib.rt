@@ -1,7 +1,5 @@
 // The nine conditions of document 01, tested for every start of a candidate beside the activities placed.
 mod after;
-mod load;
-mod quantity;
 mod sets;
 mod table;
 mod volume;

@@ -1,20 +1,10 @@
 // The table of sets, one for each start, to which the tests add their bits.
-use placed::mark_if;
+use placed::raise;
 ghost use mathlib.Core.Path.{_≡_};
-ghost use mathlib.Core.Bool.{cond};
-ghost use Prim.Native.Nat.{ℕ, _+_, _<_, _≤_};
+ghost use Prim.Native.Nat.{ℕ};
 ghost use lib.Dec.{leb};
-ghost use lib.ListN.{length, getD, set};
+ghost use lib.ListN.{length, getD};
 ghost use Rattle.placed.specs.Marked.{Marked, Room};
-
-// Adds `by` to the entry of the start s where it meets the condition.
-pub fn raise(s: u32, met: bool, by: u32, table: &mut [u32])
-    requires { ⌜ (s < length (now table)) × (getD (now table) s 0 + by < 4294967296) ⌝ }
-    ensures { λ _. ⌜ now (table .exit) ≡ set (now (table .entry)) s (getD (now (table .entry)) s 0 + cond met by 0) ⌝ }
-{
-    let at = s as usize;
-    table[at] = table[at] + mark_if(met, by);
-}
 
 // Adds `by` to the entries of the first `count` starts, from the start `from` on.
 pub fn mark_from(from: u32, count: u32, by: u32, table: &mut [u32])

@@ -1,5 +1,5 @@
 // H: the starts that leave time for the warm-up.
-use crate::table::raise;
+use placed::raise;
 use plan::Activity;
 use plan::Header;
 ghost use mathlib.Core.Path.{_≡_};

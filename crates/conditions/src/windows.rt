@@ -1,5 +1,5 @@
 // W: the starts in a window.
-use crate::table::raise;
+use placed::raise;
 use plan::Activity;
 ghost use mathlib.Core.Path.{_≡_};
 ghost use Prim.Native.Nat.{_≤_};

@@ -1,3 +1,5 @@
 pub mod Marking
 pub mod Entries
 pub mod Lists
+pub mod Marks
+pub mod Places

@@ -2,7 +2,8 @@
 use plan::Activity;
 ghost use mathlib.Core.Path.{_≡_};
 ghost use mathlib.Core.Bool.{cond};
-ghost use Prim.Native.Nat.{_≤_};
+ghost use Prim.Native.Nat.{_+_, _<_, _≤_};
+ghost use lib.ListN.{length, getD, set};
 
 // The activities placed so far, by place, each with its start: the first `count` entries of two arrays.
 pub struct Schedule {
@@ -16,4 +17,13 @@ pub fn mark_if(met: bool, by: u32) -> u32
     ensures { λ r. ⌜ (r ≡ cond met by 0) × (r ≤ by) ⌝ }
 {
     if met { by } else { 0 }
+}
+
+// Adds `by` to the entry of the start s where it meets the condition.
+pub fn raise(s: u32, met: bool, by: u32, table: &mut [u32])
+    requires { ⌜ (s < length (now table)) × (getD (now table) s 0 + by < 4294967296) ⌝ }
+    ensures { λ _. ⌜ now (table .exit) ≡ set (now (table .entry)) s (getD (now (table .entry)) s 0 + cond met by 0) ⌝ }
+{
+    let at = s as usize;
+    table[at] = table[at] + mark_if(met, by);
 }

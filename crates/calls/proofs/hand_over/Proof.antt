@@ -1,12 +1,13 @@
 -- `hand_over` meets its contract.
 -- Assumes nothing.
+use mathlib.Core.Bool.{false≢true}
 use borrow.Author.Needs.{needs}
 use Rattle.calls.proofs.Writing.{handed, not-handed}
 use Rattle.calls.proofs.hand_over.Statement.{statement}
 use Rattle.calls.proofs.hand_over.Tie as tie
 
 put-if-requires : tie.Need-put-if-requires
-put-if-requires c κs = search needs
+put-if-requires c κs = search (needs, false≢true)
 
 same-length : tie.Need-same-length
 same-length c = search needs

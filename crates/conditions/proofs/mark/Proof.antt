@@ -10,7 +10,7 @@ use Rattle.plan.specs.View.{headerView, activityView}
 use Rattle.placed.specs.View.{scheduleView}
 use Rattle.conditions.specs.Ended.{allEnded}
 use Rattle.placed.specs.Marked.{Room}
-use Rattle.conditions.proofs.Places.{bounded}
+use Rattle.placed.proofs.Places.{bounded}
 use Rattle.conditions.proofs.Picked.{past, picked, room-for, count-end}
 use borrow.Author.Needs.{needs}
 use native.Mathlib.Omega.{arith}

@@ -5,7 +5,7 @@ use mathlib.Core.Path.{_≡_, refl}
 use lib.Dec.{leb}
 use Rattle.placed.specs.Marked.{Marked}
 use Rattle.placed.proofs.Marking.{none-marked}
-use Rattle.conditions.proofs.Marks.{marked-more, room-at}
+use Rattle.placed.proofs.Marks.{marked-more, room-at}
 use native.Mathlib.Omega.{arith}
 use Rattle.conditions.proofs.table.mark_from.Statement.{statement}
 use Rattle.conditions.proofs.table.mark_from.Tie as tie

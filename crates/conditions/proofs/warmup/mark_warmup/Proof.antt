@@ -9,7 +9,7 @@ use Rattle.rules.specs.Warmup.{warmup, warmupAt}
 use Rattle.plan.specs.View.{headerView, activityView}
 use Rattle.placed.specs.Marked.{Marked}
 use Rattle.placed.proofs.Marking.{none-marked, same-marked}
-use Rattle.conditions.proofs.Marks.{marked-more, room-at}
+use Rattle.placed.proofs.Marks.{marked-more, room-at}
 use borrow.Author.Needs.{needs}
 use native.Mathlib.Omega.{arith}
 use Rattle.conditions.proofs.warmup.mark_warmup.Statement.{statement}

@@ -7,7 +7,7 @@ use Rattle.rules.specs.MeetsW.{allowed}
 use Rattle.plan.specs.View.{windowsView, activityView}
 use Rattle.placed.specs.Marked.{Marked}
 use Rattle.placed.proofs.Marking.{none-marked}
-use Rattle.conditions.proofs.Marks.{marked-more, room-at}
+use Rattle.placed.proofs.Marks.{marked-more, room-at}
 use borrow.Author.Needs.{needs, length-unmapped}
 use native.Mathlib.Omega.{arith}
 use Rattle.conditions.proofs.windows.mark_windows.Statement.{statement}

@@ -3,7 +3,7 @@
 use native.Mathlib.Omega.{arith}
 use borrow.Author.Needs.{needs}
 use Rattle.plan.specs.View.{headerView}
-use Rattle.conditions.proofs.Places.{reached-bounded}
+use Rattle.placed.proofs.Places.{reached-bounded}
 use Rattle.report.proofs.LineByLine.{schedule-count, end-written}
 use Rattle.report.proofs.whole.put_finished.Statement.{statement}
 use Rattle.report.proofs.whole.put_finished.Tie as tie
