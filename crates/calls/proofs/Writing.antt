@@ -2,21 +2,18 @@
 -- Assumes nothing.
 use Prim.Native.Nat.{ℕ, _+_, _≤_}
 use mathlib.Core.Path.{_≡_, refl, sym, _∙_, ap}
-use mathlib.Core.Bool.{Bool, true, false, cond}
-use mathlib.Core.List.{List, [], _∷_}
+use mathlib.Core.List.{List}
 use native.Mathlib.Omega.{arith}
-use lib.Dec.{leb}
 use lib.ListN.{length, take, length-take}
 use lib.Seq.{take-append-seam}
-use borrow.Author.Tests.{leb-true, leb-false}
 use Rattle.rules.specs.Report.{output}
-use Rattle.rules.specs.Calls.{countTerms, refusal, full, Filled, sliceAfter, filling}
+use Rattle.rules.specs.Calls.{countTerms, Filled, sliceAfter, filling}
 use Rattle.rules.specs.declared.CountAnswer.{CountAnswer}
 use Rattle.rules.specs.declared.CountAnswer.the-variants.{Count}
 use Rattle.text.specs.Text.{put}
 use Rattle.report.specs.Lines.{Wrote}
 use Rattle.calls.specs.Called.{SliceFilled, OutputCalled}
-use Rattle.calls.proofs.Running.{too-long, fitting, slice-kept}
+use Rattle.calls.proofs.Running.{fitting}
 
 -- what is written from index 0 on stands at the front
 pub front : (old w : List ℕ) → put old 0 w ≡ sliceAfter w old
@@ -27,14 +24,10 @@ pub front-is : (old w new : List ℕ) (r : ℕ) → Wrote old 0 w new r → take
 unfolding sliceAfter
 front-is old w new r W = let e : r ≡ length w = omega (arith, W .behind) in rw (e, W .holds, front old w) (take-append-seam w _)
 
--- the text fits, or it does not
-module _ (text lent after : List ℕ) (e : after ≡ cond (leb (length text) (length lent)) (sliceAfter text lent) lent) where
-  pub handed : leb (length text) (length lent) ≡ true → SliceFilled (filling (length lent) text) lent (Count (length text)) after
-  unfolding countTerms
-  handed h = rw (fitting _ text (leb-true _ _ h)) (record { answer = refl; slice = rw h at e })
-
-  pub not-handed : leb (length text) (length lent) ≡ false → (r : CountAnswer) → countTerms r ≡ refusal 10 0 → SliceFilled (filling (length lent) text) lent r after
-  not-handed h r a = rw (rw h at e) (slice-kept _ 10 0 (too-long _ text (leb-false _ _ h)) lent r a)
+-- a text that fits, written to the front
+pub handed : (text lent after : List ℕ) → length text ≤ length lent → after ≡ put lent 0 text → SliceFilled (filling (length lent) text) lent (Count (length text)) after
+unfolding countTerms
+handed text lent after h e = rw (fitting _ text h) (record { answer = refl; slice = e ∙ front _ _ })
 
 -- by another name of what the call answers
 pub slice-as : (f g : Filled ℕ) → f ≡ g → (lent after : List ℕ) (r : CountAnswer) → SliceFilled g lent r after → SliceFilled f lent r after

@@ -1,9 +1,8 @@
 // The planner's calls on a plan's bytes (document 01, Calls): the public library.
 ghost use mathlib.Core.Path.{_≡_};
-ghost use mathlib.Core.Bool.{true, cond};
 ghost use Prim.Native.Nat.{_<_, _≤_, min};
 ghost use lib.ListN.{length, take};
-ghost use Rattle.rules.specs.Calls.{countTerms, refusal, sliceAfter, filling, runs};
+ghost use Rattle.rules.specs.Calls.{countTerms, refusal, filling, runs};
 ghost use Rattle.plan.specs.View.{planView};
 ghost use Rattle.rules.specs.Runs.{runsFrom};
 ghost use Rattle.schedule.specs.Places.{Placeable};
@@ -52,26 +51,15 @@ pub fn outcome(bytes: &[u8], place: usize) -> OutcomeAnswer
     OutcomeAnswer::Answer(schedule::placing::outcome_at(plan, place))
 }
 
-// Copies a text to the front of a slice, where it is to be written.
-fn put_if(written: bool, out: &mut [u8], text: &[u8])
-    requires { ⌜ (written ≡ true → length (now text) ≤ length (now out)) ⌝ }
-    ensures { λ _. ⌜ now (out .exit) ≡ cond written (sliceAfter (now (text .entry)) (now (out .entry))) (now (out .entry)) ⌝ }
-{
-    if written {
-        text::word::put_bytes(out, 0, text);
-    }
-}
-
 // Copies a text to the front of a slice and answers its length; a slice too short for it remains.
 fn hand_over(text: &[u8], out: &mut [u8]) -> CountAnswer
     ensures { λ r. ⌜ SliceFilled (filling (length (now (out .entry))) (now (text .entry))) (now (out .entry)) r (now (out .exit)) ⌝ }
 {
-    let fits = text.len() <= out.len();
-    put_if(fits, out, text);
-    if fits {
-        return CountAnswer::Count(text.len());
+    if out.len() < text.len() {
+        return refuse(10, 0);
     }
-    refuse(10, 0)
+    text::word::put_bytes(out, 0, text);
+    CountAnswer::Count(text.len())
 }
 
 // The report, written to the front of `out`; answers its length.
@@ -151,6 +139,7 @@ pub fn starts(
 // What the program prints, the report or the `no` line, written to the front of `out`; answers its length.
 pub fn output(bytes: &[u8], out: &mut [u8; 4608]) -> usize
     ensures { λ r. ⌜ OutputCalled (now (bytes .entry)) (now (out .entry)) r (now (out .exit)) ⌝ }
+    // so that a caller can lend the front of `out`
     ensures { λ r. ⌜ (r ≤ length (now (out .exit))) × (r ≡ length (take r (now (out .exit)))) ⌝ }
 {
     let reading = read(bytes);

@@ -41,11 +41,8 @@ fn put_printed(out: [u8; 4608], n: usize) {
     answer::put_word(&out[0..n]);
 }
 
-// Checks that a refused report has this number and leaves the lent bytes.
-fn check_refused(out: &[u8; 4608], answer: CountAnswer, number: u32) {
-    if answer::number_of(answer) != number {
-        answer::wrong(b"the refusal of a report");
-    }
+// Checks that a refused report leaves the lent bytes.
+fn check_left(out: &[u8; 4608]) {
     if !left_from(out, 0) {
         answer::wrong(b"the bytes of a refused report");
     }
@@ -61,14 +58,30 @@ fn check_written<'a>(out: &'a [u8; 4608], printed: &'a [u8; 4608], n: usize) {
     }
 }
 
-// Checks the report into less bytes than it has.
+// Checks the report into fewer bytes than it has.
 fn check_short(plan: &[u8], room: usize) {
     if 4608 < room {
         return;
     }
     let mut out = [MARK; 4608];
     let answer = calls::report(plan, &mut out[0..room]);
-    check_refused(&out, answer, 10);
+    if answer::number_of(answer) != 10 {
+        answer::wrong(b"the refusal of a report");
+    }
+    check_left(&out);
+}
+
+// Checks the report into as many bytes as it has.
+fn check_exact(plan: &[u8], printed: &[u8; 4608], n: usize) {
+    if 4608 < n {
+        return;
+    }
+    let mut out = [MARK; 4608];
+    let answer = calls::report(plan, &mut out[0..n]);
+    if answer::count_of(answer) != n {
+        answer::wrong(b"the length of a report that just fits");
+    }
+    check_written(&out, printed, n);
 }
 
 // Checks the report into more bytes than it has.
@@ -76,13 +89,14 @@ fn check_report(plan: &[u8], printed: &[u8; 4608], length: usize) {
     let mut out = [MARK; 4608];
     let answer = calls::report(plan, &mut out);
     let CountAnswer::Count(n) = answer else {
-        check_refused(&out, answer, answer::number_of(answer));
+        check_left(&out);
         return;
     };
     if n != length {
         answer::wrong(b"the report's length");
     }
     check_written(&out, printed, n);
+    check_exact(plan, printed, n);
     if 0 < n {
         check_short(plan, n - 1);
     }
@@ -95,7 +109,7 @@ fn answer_no_room(plan: &[u8]) {
     answer::put_word(b"report");
     answer::put_count(answer);
     answer::end_line();
-    check_refused(&out, answer, answer::number_of(answer));
+    check_left(&out);
 }
 
 // Prints what the planner prints, and the answer of report into no bytes.

@@ -108,13 +108,24 @@ pub fn answer_sets(plan: &[u8], place: usize, sets: u64) {
     }
 }
 
-// Checks starts into one slice that has room and one that has none: the answer is that for no room at all.
-fn check_uneven(plan: &[u8], place: usize, number: u32) {
+// Checks starts with room for the firsts and none for the lasts: the answer is that for no room at all.
+fn check_no_lasts(plan: &[u8], place: usize, number: u32) {
     let mut firsts = [MARK; 64];
     let mut lasts = [MARK; 64];
     let answer = calls::starts(plan, place, 511, &mut firsts, &mut lasts[..0]);
     if answer::number_of(answer) != number {
         answer::wrong(b"the refusal of starts with no room for the lasts");
+    }
+    check_left(&firsts, &lasts, 0);
+}
+
+// The other way round.
+fn check_no_firsts(plan: &[u8], place: usize, number: u32) {
+    let mut firsts = [MARK; 64];
+    let mut lasts = [MARK; 64];
+    let answer = calls::starts(plan, place, 511, &mut firsts[..0], &mut lasts);
+    if answer::number_of(answer) != number {
+        answer::wrong(b"the refusal of starts with no room for the firsts");
     }
     check_left(&firsts, &lasts, 0);
 }
@@ -129,5 +140,6 @@ pub fn answer_short(plan: &[u8], place: usize) {
     answer::put_count(answer);
     answer::end_line();
     check_left(&firsts, &lasts, 0);
-    check_uneven(plan, place, answer::number_of(answer));
+    check_no_lasts(plan, place, answer::number_of(answer));
+    check_no_firsts(plan, place, answer::number_of(answer));
 }

@@ -30,6 +30,7 @@ fn read_input(buf: &mut [u8]) -> Input
 }
 
 fn main() {
+    // one byte more than a plan may have
     let mut bytes = [0u8; 60001];
     let input = read_input(&mut bytes);
     if input.failed {

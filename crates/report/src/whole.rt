@@ -22,7 +22,7 @@ fn put_finished(plan: Plan, schedule: Schedule, out: &mut [u8], at: usize) -> us
     super::line::put_end(out, at, placed as u64, refused as u64, charge, volume)
 }
 
-// Writes the report of a plan, and answers its length.
+// Writes the report of a plan, and answers its length: 64 lines of 70 bytes and the end line of 88 at most.
 pub fn put_report(plan: Plan, out: &mut [u8; 4608]) -> usize
     requires { ⌜ Placeable plan ⌝ }
     ensures { λ r. ⌜ Wrote (now (out .entry)) 0 (report (planView plan)) (now (out .exit)) r × (r ≤ 4608) ⌝ }

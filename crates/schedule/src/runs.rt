@@ -62,7 +62,8 @@ fn write_if(written: bool, out: &mut [u32], at: usize, s: u32)
     }
 }
 
-// Writes the firsts, or the lasts, of the runs of starts that meet the set, from the last run to the first.
+// Writes the firsts, or the lasts, of the runs of starts that meet the set, from the last run to the first. Of a run's
+// starts, each earlier one is written over the later as its first.
 pub fn write_column(table: &[u32], count: u32, set: u32, runs: usize, first: bool, out: &mut [u32])
     requires { ⌜ (count ≤ length (now table)) × (runs ≡ length (runsFrom (meetsIn (now table) set) 0 count)) × (runs ≤ length (now out)) ⌝ }
     ensures { λ _. ⌜ now (out .exit) ≡ sliceAfter (map (column first) (runsFrom (meetsIn (now (table .entry)) set) 0 count)) (now (out .entry)) ⌝ }
