@@ -14,7 +14,6 @@ use Rattle.placed.proofs.Places.{bounded}
 use Rattle.conditions.proofs.Picked.{past, picked, room-for, count-end}
 use borrow.Author.Needs.{needs}
 use native.Mathlib.Omega.{arith}
-use borrow.Author.Needs.{needs}
 use Rattle.conditions.proofs.mark.Statement.{statement}
 use Rattle.conditions.proofs.mark.Tie as tie
 

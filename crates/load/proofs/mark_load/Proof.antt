@@ -6,7 +6,6 @@ use Rattle.load.proofs.Clear.{loaded-clear}
 use mathlib.Core.Path.{refl}
 use borrow.Author.Needs.{needs}
 use native.Mathlib.Omega.{arith}
-use borrow.Author.Needs.{needs}
 use Rattle.load.proofs.mark_load.Statement.{statement}
 use Rattle.load.proofs.mark_load.Tie as tie
 

@@ -9,7 +9,6 @@ use Rattle.load.proofs.Ready.{starts-end, load-ready}
 use Rattle.load.proofs.Clear.{load-is}
 use borrow.Author.Needs.{needs}
 use native.Mathlib.Omega.{arith}
-use borrow.Author.Needs.{needs}
 use Rattle.load.proofs.mark_peaks.Statement.{statement}
 use Rattle.load.proofs.mark_peaks.Tie as tie
 

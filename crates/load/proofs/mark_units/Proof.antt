@@ -7,7 +7,6 @@ use Rattle.load.proofs.Ready.{starts-end, load-ready}
 use Rattle.load.proofs.Clear.{units-is}
 use borrow.Author.Needs.{needs}
 use native.Mathlib.Omega.{arith}
-use borrow.Author.Needs.{needs}
 use Rattle.load.proofs.mark_units.Statement.{statement}
 use Rattle.load.proofs.mark_units.Tie as tie
 

@@ -10,7 +10,6 @@ use Rattle.conditions.proofs.Ended.{ready-is}
 use Rattle.placed.proofs.Marking.{same-marked}
 use borrow.Author.Needs.{needs}
 use native.Mathlib.Omega.{arith}
-use borrow.Author.Needs.{needs}
 use Rattle.conditions.proofs.after.mark_after.Statement.{statement}
 use Rattle.conditions.proofs.after.mark_after.Tie as tie
 

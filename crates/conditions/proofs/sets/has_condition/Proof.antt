@@ -7,7 +7,6 @@ use lib.Pow.{pow-pos}
 use Rattle.rules.specs.Conditions.{has}
 use Rattle.conditions.proofs.Picked.{bit-is}
 use borrow.Author.Needs.{needs}
-use borrow.Author.Needs.{needs}
 use Rattle.conditions.proofs.sets.has_condition.Statement.{statement}
 use Rattle.conditions.proofs.sets.has_condition.Tie as tie
 

@@ -2,7 +2,6 @@
 -- Assumes nothing.
 use mathlib.Core.Path.{sym, _∙_}
 use borrow.Author.Needs.{needs}
-use borrow.Author.Needs.{needs}
 use Rattle.conditions.proofs.sets.has_if.Statement.{statement}
 use Rattle.conditions.proofs.sets.has_if.Tie as tie
 

@@ -8,7 +8,6 @@ use Rattle.placed.specs.View.{scheduleView}
 use Rattle.placed.proofs.Marking.{same-marked}
 use Rattle.conditions.proofs.Volumes.{allowed-from}
 use borrow.Author.Needs.{needs}
-use borrow.Author.Needs.{needs}
 use Rattle.conditions.proofs.volume.mark_volume.Statement.{statement}
 use Rattle.conditions.proofs.volume.mark_volume.Tie as tie
 

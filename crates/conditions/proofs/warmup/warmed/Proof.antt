@@ -1,7 +1,6 @@
 -- `warmed` meets its contract.
 -- Assumes nothing.
 use borrow.Author.Needs.{needs}
-use borrow.Author.Needs.{needs}
 use Rattle.conditions.proofs.warmup.warmed.Statement.{statement}
 use Rattle.conditions.proofs.warmup.warmed.Tie as tie
 

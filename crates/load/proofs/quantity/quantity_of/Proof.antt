@@ -6,7 +6,6 @@ use mir.Val.{boolByte}
 use Rattle.plan.specs.View.{activityView}
 use Rattle.load.specs.Quantity.{quantityOf}
 use borrow.Author.Needs.{needs}
-use borrow.Author.Needs.{needs}
 use Rattle.load.proofs.quantity.quantity_of.Statement.{statement}
 use Rattle.load.proofs.quantity.quantity_of.Tie as tie
 

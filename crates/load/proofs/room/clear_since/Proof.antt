@@ -1,7 +1,8 @@
 -- `clear_since` meets its contract.
 -- Assumes nothing.
+use Prim.Native.Nat.{_+_, _<_, _≤_}
+use native.Mathlib.Omega.{arith}
 use borrow.Author.Tests.{le-leb, lt-leb}
-use borrow.Author.Needs.{needs}
 use borrow.Author.Needs.{needs}
 use Rattle.load.proofs.room.clear_since.Statement.{statement}
 use Rattle.load.proofs.room.clear_since.Tie as tie
@@ -13,10 +14,10 @@ add-result : tie.Need-add-result
 add-result c = search needs
 
 returns : tie.Need-returns
-returns c = rw (le-leb _ _ (c .if1 .taken))
+returns c = let a = c .before .args in let h : a .weight + a .load ≤ a .limit = omega arith in rw (le-leb _ _ h)
 
 returns-2 : tie.Need-returns-2
-returns-2 c = rw (lt-leb _ _ (c .if1 .left))
+returns-2 c = let a = c .before .args in let h : a .limit < a .weight + a .load = omega arith in rw (lt-leb _ _ h)
 
 pub clear-since-spec : {M : Type 1} → statement M
 clear-since-spec = tie.close (tie.spec add-if1 add-result returns returns-2)
