@@ -1,19 +1,18 @@
 -- What the reader's struct says: the refusal that the definition reads, or its plan with the activities by place.
 -- Assumes nothing.
-use Prim.Native.Nat.{ℕ, _<_, _≤_}
-use mathlib.Core.Path.{_≡_, refl, sym, _∙_, ap, subst}
+use Prim.Native.Nat.{ℕ, _<_}
+use mathlib.Core.Path.{_≡_, refl, sym, _∙_, ap}
 use mathlib.Core.List.{List, map}
 use native.Mathlib.Omega.{arith}
 use borrow.Author.Tests.{eq-eqb, ne-eqb}
 use lib.ListN.{length, getD, take, List·getD-map, length-map}
 use lib.Seq.{getD-take, length-take-le}
-use Rattle.rules.specs.Plan.{Activity, Plan}
+use Rattle.rules.specs.Plan.{Plan}
 use Rattle.rules.specs.Order.{order}
 use Rattle.rules.specs.OrderRight.{nthActivity}
 use Rattle.rules.specs.Outcomes.{noActivity}
 use Rattle.rules.specs.Reading.{Reading, accepted, refused, no, reading}
 use Rattle.rules.specs.WellFormed.{ActivityFormed, WellFormed, Reachable}
-use Rattle.rules.specs.declared.Refusal.{Refusal}
 use Rattle.rules.proofs.Accepted.{accepted-formed}
 use Rattle.rules.proofs.ListAt.{at-mem}
 use Rattle.rules.proofs.Order.{order-right, order-length}

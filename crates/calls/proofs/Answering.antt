@@ -1,18 +1,14 @@
 -- The calls' definitions at each end that the code comes to.
 -- Assumes nothing.
-use Prim.Native.Nat.{ℕ, _<_, _≤_, min}
-use mathlib.Core.Path.{_≡_, refl, sym, _∙_, ap}
-use mathlib.Core.Bool.{true, false}
-use mathlib.Core.List.{List, [], map}
-use native.Mathlib.Omega.{arith}
-use lib.ListN.{length}
+use Prim.Native.Nat.{ℕ, _<_, _≤_}
+use mathlib.Core.Path.{_≡_}
+use mathlib.Core.List.{List}
 use borrow.Author.Tests.{le-leb, lt-leb, lt-ltb, le-ltb}
-use Rattle.rules.specs.Plan.{Plan}
 use Rattle.rules.specs.Conditions.{allConditions}
 use Rattle.rules.specs.Reading.{no, reading}
 use Rattle.rules.specs.Outcomes.{outcome}
 use Rattle.rules.specs.Report.{report, noLine, answerTo, output}
-use Rattle.rules.specs.Calls.{refusal, full, outcomeValues, Filled, refusing, filling, outcomeOf, outcomeCall, reportOf, reportCall, runs, startsOf, startsCall}
+use Rattle.rules.specs.Calls.{refusal, full, outcomeValues, refusing, filling, outcomeOf, outcomeCall, reportOf, reportCall, runs, startsOf, startsCall}
 use Rattle.rules.proofs.Ordered.{same-outcome, same-report, same-runs}
 use Rattle.plan.specs.View.{planView}
 use Rattle.plan.specs.declared.Plan.{Plan as PlanStruct}

@@ -1,27 +1,25 @@
 -- What the calls return for every byte string meets demand 3.
 -- Assumes nothing.
-use Prim.Native.Nat.{ℕ, _<_, _≤_, min}
-use mathlib.Core.Path.{_≡_, refl, sym, _∙_, ap}
+use Prim.Native.Nat.{ℕ, _<_, _≤_}
+use mathlib.Core.Path.{_≡_, _∙_, ap}
 use mathlib.Core.List.{List, [], _∷_, map}
-use native.Mathlib.Omega.{arith}
 use lib.ListN.{length}
 use borrow.Author.Tests.{le-leb, lt-leb, lt-ltb, le-ltb}
 use Rattle.rules.specs.Plan.{Plan}
 use Rattle.rules.specs.Conditions.{allConditions}
-use Rattle.rules.specs.Reading.{Reading, accepted, refused, reading}
-use Rattle.rules.specs.Report.{noLine, answerTo, output}
-use Rattle.rules.specs.Calls.{refusal, full, outcomeValues, outcomeTerms, countTerms, Filled, sliceAfter, refusing, filling, outcomeOf, outcomeCall, reportOf, reportCall, runs, startsOf, startsCall}
-use Rattle.rules.specs.Demand.{reportBy, Demand3}
+use Rattle.rules.specs.Reading.{accepted, refused, reading}
+use Rattle.rules.specs.Report.{answerTo, output}
+use Rattle.rules.specs.Calls.{full, outcomeTerms, countTerms, Filled, sliceAfter, refusing, filling, outcomeOf, outcomeCall, reportOf, reportCall, runs, startsOf, startsCall}
+use Rattle.rules.specs.Demand.{Demand3}
 use Rattle.rules.specs.declared.Refusal.{Refusal}
 use Rattle.rules.specs.declared.Interval.{Interval}
-use Rattle.rules.specs.declared.OutcomeAnswer.{OutcomeAnswer}
 use Rattle.rules.specs.declared.OutcomeAnswer.the-variants.{Answer, No}
 use Rattle.rules.specs.declared.CountAnswer.{CountAnswer}
 use Rattle.rules.specs.declared.CountAnswer.the-variants.{Count, No as CountNo}
 use Rattle.rules.proofs.Demand.{demand3}
 use Rattle.rules.proofs.Runs.{runs-right}
 use Rattle.rules.proofs.Terms.{outcome-terms-differ, count-terms-differ}
-use Rattle.calls.specs.Called.{OutcomeCalled, SliceFilled, ReportCalled, ColumnsFilled, StartsCalled, OutputCalled}
+use Rattle.calls.specs.Called.{SliceFilled, ColumnsFilled}
 use Rattle.calls.specs.Promise.{no, Answered, RunsAnswered, Refused, Promise}
 use Rattle.calls.proofs.Running.{too-long, fitting}
 

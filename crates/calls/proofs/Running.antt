@@ -1,6 +1,6 @@
 -- The runs of starts at a place, found in its table and written into two slices.
 -- Assumes nothing.
-use Prim.Native.Nat.{ℕ, _+_, _-_, _<_, _≤_, min}
+use Prim.Native.Nat.{ℕ, _<_, _≤_}
 use mathlib.Core.Path.{_≡_, refl, sym, _∙_, ap}
 use mathlib.Core.Bool.{true, false}
 use mathlib.Core.List.{List, [], _∷_, map}
@@ -17,7 +17,6 @@ use Rattle.rules.specs.declared.CountAnswer.the-variants.{Count}
 use Rattle.plan.specs.View.{noStruct, headerView, activityView, planView}
 use Rattle.plan.specs.declared.Plan.{Plan as PlanStruct}
 use Rattle.placed.specs.Marked.{Table}
-use Rattle.conditions.proofs.Picked.{count-is}
 use Rattle.schedule.specs.Places.{Placeable}
 use Rattle.schedule.specs.Search.{meetsIn, column}
 use Rattle.schedule.proofs.PlaceByPlace.{activity-is}
@@ -25,11 +24,11 @@ use Rattle.schedule.proofs.Tabled.{table-runs}
 use Rattle.calls.specs.Called.{SliceFilled, ColumnsFilled}
 
 -- the runs in the table of a place are the runs at that place
-pub runs-are : (q : PlanStruct) → Placeable q → (k : ℕ) → k < q .count → (table : List ℕ) → Table (meets (headerView (q .header)) (placed (planView q) k) (activityAt (planView q) k)) (starts (headerView (q .header)) (activityAt (planView q) k)) table → (m : ℕ)
-    → runsFrom (meetsIn table m) 0 (q .header .horizon + 1 - getD (q .activities) k noStruct .duration) ≡ runs (planView q) k m
+pub runs-are : (q : PlanStruct) → Placeable q → (k : ℕ) → k < q .count → (table : List ℕ) → Table (meets (headerView (q .header)) (placed (planView q) k) (activityAt (planView q) k)) (starts (headerView (q .header)) (activityAt (planView q) k)) table → (m n : ℕ)
+    → n ≡ starts (headerView (q .header)) (activityView (getD (q .activities) k noStruct)) → runsFrom (meetsIn table m) 0 n ≡ runs (planView q) k m
 unfolding runs planView
-runs-are q G k h table T m =
-    ap (runsFrom (meetsIn table m) 0) (count-is (q .header) (getD (q .activities) k noStruct) ∙ ap (starts (headerView (q .header))) (sym (activity-is q G k h)))
+runs-are q G k h table T m n e =
+    ap (runsFrom (meetsIn table m) 0) (e ∙ ap (starts (headerView (q .header))) (sym (activity-is q G k h)))
     ∙ table-runs _ _ table T m
 
 -- a result that the slice is too short for, and one that fits

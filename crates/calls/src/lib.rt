@@ -106,7 +106,7 @@ fn runs_at(plan: Plan, place: usize, set: u32, firsts: &mut [u32], lasts: &mut [
     let table = schedule::placing::table_at(plan, place);
     let activity = plan.activities[place];
     let header = plan.header;
-    let count = header.horizon + 1 - activity.duration;
+    let count = conditions::start_count(header, activity);
     write_runs(&table, count, set, firsts, lasts)
 }
 

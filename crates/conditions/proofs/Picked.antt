@@ -1,12 +1,11 @@
 -- A condition picked by its number, and the table filled condition by condition.
 -- Assumes nothing.
-use Prim.Native.Nat.{ℕ, zero, suc, _+_, _-_, _^_, _<_, _≤_}
+use Prim.Native.Nat.{ℕ, zero, suc, _+_, _^_, _<_, _≤_}
 use mathlib.Core.Path.{_≡_, sym, _∙_, ap, subst}
 use mathlib.Core.Logic.{_≢_}
 use mathlib.Core.Bool.{Bool, cond}
 use mathlib.Core.List.{List}
 use native.Mathlib.Omega.{arith}
-use native.Mathlib.Numerals.{add-one}
 use lib.ListN.{length, getD}
 use borrow.Author.Tests.{lt-ltb}
 use Rattle.rules.specs.Plan.{Header, Activity, Schedule}
@@ -54,11 +53,6 @@ module _ (h : HeaderStruct) (s : ScheduleStruct) (a : ActivityStruct) (count : �
   pub count-end : count + a .duration ≤ h .horizon + 1
   unfolding starts headerView activityView
   count-end = omega (arith, r .candidate .duration .1)
-
--- how many starts there are
-pub count-is : (h : HeaderStruct) (a : ActivityStruct) → h .horizon + 1 - a .duration ≡ starts (headerView h) (activityView a)
-unfolding starts headerView activityView
-count-is h a = rw add-one
 
 -- a table with the first c conditions
 pub record Stage (test : ℕ → ℕ → Bool) (n c : ℕ) (table : List ℕ) : Type 0 where

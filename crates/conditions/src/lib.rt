@@ -11,6 +11,7 @@ use plan::Activity;
 use plan::Header;
 pub use sets::bit;
 pub use sets::contains;
+pub use sets::has_condition;
 pub use sets::letter;
 pub use volume::total_volume;
 ghost use mathlib.Core.Path.{_≡_};
@@ -18,10 +19,19 @@ ghost use Prim.Native.Nat.{ℕ, _^_, _<_, _≤_};
 ghost use lib.ListN.{length, getD};
 ghost use Rattle.rules.specs.Conditions.{conditionCount, meets};
 ghost use Rattle.rules.specs.Outcomes.{starts};
+ghost use Rattle.rules.specs.WellFormed.{HeaderFormed, ActivityFormed};
 ghost use Rattle.plan.specs.View.{headerView, activityView};
 ghost use Rattle.placed.specs.View.{scheduleView};
 ghost use Rattle.placed.specs.Ready.{Ready};
 ghost use Rattle.placed.specs.Marked.{Marked, Table};
+
+// How many starts a candidate has: those from 0 to T − d.
+pub fn start_count(header: Header, candidate: Activity) -> u32
+    requires { ⌜ HeaderFormed (headerView header) × ActivityFormed (headerView header) (activityView candidate) ⌝ }
+    ensures { λ r. ⌜ (r ≡ starts (headerView header) (activityView candidate)) × (r ≤ 4096) ⌝ }
+{
+    header.horizon + 1 - candidate.duration
+}
 
 // Adds the bit of condition number c to the entries of the starts that meet it.
 fn mark(
@@ -58,7 +68,7 @@ pub fn fill(header: Header, schedule: Schedule, candidate: Activity, table: &mut
     ensures { λ _. ⌜ Table (meets (headerView header) (scheduleView schedule) (activityView candidate)) (starts (headerView header) (activityView candidate)) (now (table .exit)) ⌝ }
 {
     table::clear(table);
-    let count = header.horizon + 1 - candidate.duration;
+    let count = start_count(header, candidate);
     for c in 0..9 {
         mark(c, header, schedule, candidate, count, table);
     }

@@ -1,73 +1,40 @@
 -- The letters of a set, written one by one.
 -- Assumes nothing.
-use Prim.Native.Nat.{ℕ, zero, suc, _+_, _/_, _%_, _^_, _<_, _≤_}
-use mathlib.Core.Path.{_≡_, refl, sym, _∙_, ap}
+use Prim.Native.Nat.{ℕ, zero, suc, _+_, _<_, _≤_}
+use mathlib.Core.Path.{_≡_, refl, sym, ap}
 use mathlib.Core.Bool.{Bool, true, false, cond}
-use mathlib.Core.List.{List, [], _∷_, _++_, append-assoc, append-nil}
-use native.Mathlib.Nat.{div-div-eq-div-mul, div-one, pow-suc}
+use mathlib.Core.List.{List, [], _∷_, _++_}
+use native.Mathlib.Nat.{not-suc-le-zero}
 use native.Mathlib.Numerals.{add-one}
 use native.Mathlib.Omega.{arith}
-use lib.Dec.{eqb}
-use lib.ListN.{length, getD, drop, set}
-use lib.Seq.{drop-cons}
-use borrow.Author.Tests.{eq-eqb, ne-eqb}
-use Rattle.rules.specs.Conditions.{conditionCount, conditionLetters, has, lettersFrom, lettersOf}
+use lib.ListN.{length, getD, set, take}
+use Rattle.rules.specs.Conditions.{conditionCount, conditionLetters, has, lettersFrom}
 use Rattle.text.proofs.Put.{put-nil, put-one}
-use Rattle.report.specs.Lines.{Wrote, lowest}
+use Rattle.report.specs.Lines.{Wrote}
 use Rattle.report.proofs.Writing.{wrote-then}
 
-module _ (l : List ℕ) (at left x : ℕ) where
-  pub letter-written : (y : ℕ) → left % 2 ≡ 1 → y ≡ x → at < length l → Wrote l at (lowest left x) (set l at y) (at + 1)
-  unfolding lowest
-  letter-written y e f h = rw (eq-eqb _ _ e, f) (record { holds = put-one l at x h; behind = refl })
+module _ (l : List ℕ) (at m c x : ℕ) where
+  pub letter-written : (y : ℕ) → has m c ≡ true → y ≡ x → at < length l → Wrote l at (lettersFrom c (x ∷ []) m) (set l at y) (at + 1)
+  unfolding lettersFrom
+  letter-written y e f h = rw (e, f) (record { holds = put-one l at x h; behind = refl })
 
-  pub letter-skipped : (left % 2 ≡ 1 → ⊥) → Wrote l at (lowest left x) l at
-  unfolding lowest
-  letter-skipped e = rw (ne-eqb _ _ e) (record { holds = sym (put-nil l at); behind = omega arith })
+  pub letter-skipped : has m c ≡ false → Wrote l at (lettersFrom c (x ∷ []) m) l at
+  unfolding lettersFrom
+  letter-skipped e = rw e (record { holds = sym (put-nil l at); behind = omega arith })
 
-pub lowest-length : (left x : ℕ) → length (lowest left x) ≤ 1
-unfolding lowest
-lowest-length left x = go (eqb (left % 2) 1)
-  where
-    go : (b : Bool) → length (cond b (x ∷ []) []) ≤ 1
-    go true = omega arith
-    go false = omega arith
+-- one letter more
+in-front : (b : Bool) (x : ℕ) (w v : List ℕ) → cond b (x ∷ (w ++ v)) (w ++ v) ≡ cond b (x ∷ w) w ++ v
+in-front true x w v = refl
+in-front false x w v = refl
 
--- what is left of the set when the first c conditions are gone through
-pub left-first : (m : ℕ) → m ≡ m / 2 ^ 0
-left-first m = sym (div-one m)
-
-pub left-next : (m c left : ℕ) → left ≡ m / 2 ^ c → left / 2 ≡ m / 2 ^ (c + 1)
-left-next m c left e = ap (λ (x : ℕ). x / 2) e ∙ div-div-eq-div-mul m (2 ^ c) 2 ∙ ap (λ (d : ℕ). m / d) (sym (rw add-one (pow-suc 2 c)))
-
--- the letters of the first c conditions
-unfoldable pub lettersTo : ℕ → ℕ → List ℕ
-lettersTo m zero = []
-lettersTo m (suc c) = lettersTo m c ++ lowest (m / 2 ^ c) (getD conditionLetters c 0)
-
--- one letter in front
-from-next : (m c x : ℕ) (xs : List ℕ) → lettersFrom c (x ∷ xs) m ≡ lowest (m / 2 ^ c) x ++ lettersFrom (suc c) xs m
-unfolding lettersFrom lowest has
-from-next m c x xs = go (eqb (m / 2 ^ c % 2) 1)
-  where
-    go : (b : Bool) → cond b (x ∷ lettersFrom (suc c) xs m) (lettersFrom (suc c) xs m) ≡ cond b (x ∷ []) [] ++ lettersFrom (suc c) xs m
-    go true = refl
-    go false = refl
-
-letters-split : (m c : ℕ) → c ≤ length conditionLetters → lettersTo m c ++ lettersFrom c (drop c conditionLetters) m ≡ lettersOf m
-unfolding lettersTo lettersOf
-letters-split m zero h = refl
-letters-split m (suc c) h =
-    append-assoc (lettersTo m c) _ _
-    ∙ ap (λ (w : List ℕ). lettersTo m c ++ w) (sym (from-next m c (getD conditionLetters c 0) (drop (suc c) conditionLetters)) ∙ ap (λ (w : List ℕ). lettersFrom c w m) (sym (drop-cons conditionLetters c 0 h)))
-    ∙ letters-split m c (omega arith)
-
-pub letters-all : (m : ℕ) → lettersTo m conditionCount ≡ lettersOf m
-unfolding conditionLetters lettersFrom
-letters-all m = sym (append-nil (lettersTo m 9)) ∙ letters-split m 9 (omega arith)
+from-more : (m c n k : ℕ) (xs : List ℕ) → k ≡ c + n → n < length xs → lettersFrom c (take (suc n) xs) m ≡ lettersFrom c (take n xs) m ++ lettersFrom k (getD xs n 0 ∷ []) m
+unfolding lettersFrom
+from-more m c n k [] e h = absurd (not-suc-le-zero h)
+from-more m c zero k (x ∷ xs) e h = ap (λ (j : ℕ). lettersFrom j (x ∷ []) m) (omega arith)
+from-more m c (suc n) k (x ∷ xs) e h = rw (from-more m (suc c) n k xs (omega arith) (omega arith)) (in-front (has m c) x _ _)
 
 -- the letters gone through are written
-pub letters-more : (old : List ℕ) (at m c left : ℕ) (out new : List ℕ) (to next : ℕ) → Wrote old at (lettersTo m c) out to → left ≡ m / 2 ^ c → Wrote out to (lowest left (getD conditionLetters c 0)) new next → next ≤ length old → Wrote old at (lettersTo m (c + 1)) new next
-unfolding lettersTo
-letters-more old at m c left out new to next W e L h =
-    rw (add-one, ← e) (wrote-then old at (lettersTo m c) out to W (lowest left (getD conditionLetters c 0)) new next L h)
+pub letters-more : (old : List ℕ) (at m c : ℕ) (out new : List ℕ) (to next : ℕ) → c < conditionCount → Wrote old at (lettersFrom 0 (take c conditionLetters) m) out to → Wrote out to (lettersFrom c (getD conditionLetters c 0 ∷ []) m) new next → next ≤ length old → Wrote old at (lettersFrom 0 (take (c + 1) conditionLetters) m) new next
+unfolding conditionLetters
+letters-more old at m c out new to next k W L h =
+    rw (add-one, from-more m 0 c c conditionLetters (omega arith) k) (wrote-then old at _ out to W _ new next L h)

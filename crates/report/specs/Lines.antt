@@ -1,9 +1,7 @@
 -- The lines of a report, over the numbers in them.
-use Prim.Native.Nat.{ℕ, _+_, _%_}
+use Prim.Native.Nat.{ℕ, _+_}
 use mathlib.Core.Path.{_≡_}
-use mathlib.Core.Bool.{cond}
 use mathlib.Core.List.{List, [], _∷_}
-use lib.Dec.{eqb}
 use lib.ListN.{length}
 use Rattle.rules.specs.Bytes.{bytes}
 use Rattle.rules.specs.Number.{decimal}
@@ -17,10 +15,6 @@ use Rattle.rules.specs.declared.Outcome.the-variants.{Placed, Refused}
 pub record Wrote (old : List ℕ) (at : ℕ) (w new : List ℕ) (next : ℕ) : Type 0 where
   pub holds : new ≡ put old at w
   pub behind : next ≡ at + length w
-
--- the letter x if the number `left` is odd
-unfoldable pub lowest : ℕ → ℕ → List ℕ
-lowest left x = cond (eqb (left % 2) 1) (x ∷ []) []
 
 -- the line of an activity of this id and duration
 unfoldable pub outcomeText : ℕ → ℕ → Outcome → List ℕ

@@ -1,14 +1,14 @@
 -- Tests that agree on every condition at every start have the same answers and the same runs.
 -- Assumes nothing.
 use Prim.Native.Nat.{ℕ, zero, suc, _+_, _-_, _^_, _<_, _≤_}
-use mathlib.Core.Path.{_≡_, refl, sym, _∙_, ap}
-use mathlib.Core.Bool.{Bool, true, false, cond, not, _||_, _&&_}
+use mathlib.Core.Path.{_≡_, refl, _∙_, ap}
+use mathlib.Core.Bool.{Bool, cond, not, _||_}
 use mathlib.Core.Option.{Option, none, some}
 use native.Mathlib.Omega.{arith}
 use Rattle.rules.specs.Tests.{ever}
 use Rattle.rules.specs.Conditions.{conditionCount, allConditions, has, meetsSet}
 use Rattle.rules.specs.Answer.{nearest, common, kept, letters, valid, answered, answer}
-use Rattle.rules.specs.Runs.{withStart, runsFrom}
+use Rattle.rules.specs.Runs.{runsFrom}
 use Rattle.placed.proofs.Lists.{each-same}
 use Rattle.schedule.proofs.Nearer.{nearest-same}
 

@@ -1,14 +1,13 @@
 -- A start in common, searched for from the first start on.
 -- Assumes nothing.
-use Prim.Native.Nat.{ℕ, zero, suc, _+_, _<_, _≤_}
-use mathlib.Core.Path.{_≡_, refl, sym, _∙_, ap}
+use Prim.Native.Nat.{ℕ, _+_, _<_}
+use mathlib.Core.Path.{_≡_, refl}
 use mathlib.Core.Bool.{Bool, true, false}
 use mathlib.Core.List.{List}
 use native.Mathlib.Numerals.{add-one}
-use native.Mathlib.Omega.{arith}
 use lib.ListN.{getD}
-use Rattle.rules.specs.Tests.{each, ever}
-use Rattle.rules.specs.Conditions.{has, meetsSet}
+use Rattle.rules.specs.Tests.{ever}
+use Rattle.rules.specs.Conditions.{meetsSet}
 use Rattle.rules.specs.Answer.{common}
 use Rattle.rules.proofs.Tests.{ever-at}
 use Rattle.schedule.specs.Search.{testIn}

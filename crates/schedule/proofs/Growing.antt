@@ -1,18 +1,17 @@
 -- A schedule with one entry more, as the code's arrays hold it.
 -- Assumes nothing.
 use Prim.Native.Nat.{ℕ, zero, suc, _+_, _<_, _≤_}
-use mathlib.Core.Path.{_≡_, refl, sym, _∙_, ap, subst}
-use mathlib.Core.List.{List, _∷_}
+use mathlib.Core.Path.{_≡_, refl, _∙_}
+use mathlib.Core.List.{List}
 use native.Mathlib.Numerals.{add-one}
 use native.Mathlib.Omega.{arith}
 use lib.ListN.{length, getD, set, length-set}
 use lib.Seq.{getD-set-same, getD-set-other}
-use Rattle.rules.specs.Plan.{Schedule, at}
 use Rattle.rules.specs.Outcomes.{added}
 use Rattle.rules.specs.declared.Outcome.{Outcome}
 use Rattle.rules.specs.declared.Outcome.the-variants.{Placed, Refused}
 use Rattle.rules.proofs.Tests.{last-or}
-use Rattle.plan.specs.View.{Sized, noStruct, activityView}
+use Rattle.plan.specs.View.{Sized, noStruct}
 use Rattle.plan.specs.declared.Activity.{Activity as ActivityStruct}
 use Rattle.placed.specs.View.{entriesView, scheduleView}
 use Rattle.placed.specs.declared.Schedule.{Schedule as ScheduleStruct}

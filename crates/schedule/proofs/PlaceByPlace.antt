@@ -1,8 +1,8 @@
 -- The schedule grows place by place as document 01 says, and stays one that the conditions can be tested beside.
 -- Assumes nothing.
-use Prim.Native.Nat.{ℕ, zero, suc, _+_, _<_, _≤_}
+use Prim.Native.Nat.{ℕ, _+_, _<_, _≤_}
 use mathlib.Core.Path.{_≡_, refl, sym, _∙_, ap, subst}
-use mathlib.Core.List.{List, [], _∷_, map, List·Memᴰ, List·Memᴰ·head, List·Memᴰ·tail, List·Memᴰ·not-nil}
+use mathlib.Core.List.{List, [], _∷_, List·Memᴰ, List·Memᴰ·head, List·Memᴰ·tail, List·Memᴰ·not-nil}
 use native.Mathlib.Numerals.{add-one}
 use native.Mathlib.Omega.{arith}
 use lib.IntN.{pos}
@@ -10,7 +10,6 @@ use lib.ListN.{length, getD, take, List·getD-map}
 use lib.Seq.{getD-take}
 use lib.Signed.{_≤ℤ_}
 use Rattle.rules.specs.Plan.{Header, Activity, Entry, Schedule, at, end}
-use Rattle.rules.specs.Order.{order}
 use Rattle.rules.specs.MeetsB.{charge}
 use Rattle.rules.specs.WellFormed.{HeaderFormed, ActivityFormed}
 use Rattle.rules.specs.Outcomes.{noActivity, starts, activityAt, reply, added, placed, outcome}
@@ -20,7 +19,7 @@ use Rattle.rules.specs.declared.Outcome.{Outcome}
 use Rattle.rules.specs.declared.Outcome.the-variants.{Placed, Refused}
 use Rattle.rules.proofs.Answers.{replied}
 use Rattle.rules.proofs.Kept.{none-kept, more-kept}
-use Rattle.plan.specs.View.{Sized, noStruct, headerView, activityView, planView}
+use Rattle.plan.specs.View.{noStruct, headerView, activityView, planView}
 use Rattle.plan.specs.declared.Plan.{Plan as PlanStruct}
 use Rattle.placed.specs.View.{entriesView, scheduleView}
 use Rattle.placed.specs.Ready.{Reached, Ready}

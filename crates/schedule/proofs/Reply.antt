@@ -1,17 +1,15 @@
 -- The answer that a table of sets gives, by what the search for the nearest valid start finds.
 -- Assumes nothing.
-use Prim.Native.Nat.{ℕ, suc, _<_, _≤_}
-use mathlib.Core.Path.{_≡_, refl, sym, _∙_, ap}
+use Prim.Native.Nat.{ℕ, suc, _≤_}
+use mathlib.Core.Path.{_≡_, refl, sym, _∙_}
 use mathlib.Core.Bool.{Bool, true, false, Bool·beq}
 use mathlib.Core.List.{List}
-use mathlib.Core.Option.{Option, none, some}
 use native.Mathlib.Omega.{arith}
 use lib.Dec.{eqb}
 use lib.ListN.{getD}
 use Rattle.rules.specs.Tests.{each}
-use Rattle.rules.specs.Conditions.{conditionCount, allConditions, has, meetsSet}
+use Rattle.rules.specs.Conditions.{allConditions, has}
 use Rattle.rules.specs.Answer.{nearest, letters, valid, answered, answer}
-use Rattle.rules.specs.declared.Outcome.{Outcome}
 use Rattle.rules.specs.declared.Outcome.the-variants.{Placed, Refused}
 use Rattle.rules.proofs.Tests.{each-at}
 use Rattle.schedule.specs.Found.{optionOf, isValid, toPreferred}

@@ -1,7 +1,7 @@
 -- What a table of sets says is what the conditions say.
 -- Assumes nothing.
-use Prim.Native.Nat.{ℕ, _+_, _-_, _<_, _≤_}
-use mathlib.Core.Path.{_≡_, refl, sym, _∙_, ap}
+use Prim.Native.Nat.{ℕ, _-_, _<_, _≤_}
+use mathlib.Core.Path.{_≡_, refl, _∙_, ap}
 use mathlib.Core.Bool.{Bool, true, false}
 use mathlib.Core.List.{List}
 use native.Mathlib.Omega.{arith}
@@ -11,7 +11,7 @@ use borrow.Author.Tests.{ltb-true, ltb-false}
 use Rattle.rules.specs.Conditions.{conditionCount, allConditions, has, meetsSet}
 use Rattle.rules.specs.Answer.{answer}
 use Rattle.rules.specs.Runs.{runsFrom}
-use Rattle.placed.specs.Marked.{metSet, Table, holdsSet}
+use Rattle.placed.specs.Marked.{metSet, Table}
 use Rattle.conditions.proofs.MetSets.{has-met, met-low}
 use Rattle.schedule.specs.Search.{testIn, meetsIn}
 use Rattle.schedule.proofs.Agree.{answer-alike, runs-alike, meets-alike}

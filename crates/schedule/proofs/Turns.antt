@@ -1,14 +1,12 @@
 -- Going through the letters in turn: what is left to go through is still in the set.
 -- Assumes nothing.
-use Prim.Native.Nat.{ℕ, zero, suc, _+_, _-_, _*_, _/_, _%_, _^_, _<_, _≤_}
-use mathlib.Core.Path.{_≡_, refl, sym, _∙_, ap}
+use Prim.Native.Nat.{ℕ, suc, _-_, _/_, _%_, _^_, _<_, _≤_}
+use mathlib.Core.Path.{_≡_}
 use mathlib.Core.Bool.{Bool, true, false, cond}
-use native.Mathlib.Nat.{div-mul-le-self, le-trans, mul-le-mul-right}
+use native.Mathlib.Nat.{div-mul-le-self, mul-le-mul-right}
 use native.Mathlib.Omega.{arith}
-use lib.Dec.{eqb}
 use borrow.Author.Tests.{eqb-true}
 use Rattle.rules.specs.Conditions.{conditionCount, allConditions, has}
-use Rattle.rules.specs.Answer.{common, kept}
 use Rattle.rules.proofs.Sets.{to-kept, all-of-them}
 
 -- a set that has a condition is at least its bit

@@ -1,7 +1,7 @@
 // The letters of a refusal: the conditions kept when each is gone through in turn.
 ghost use mathlib.Core.Path.{_≡_};
 ghost use mathlib.Core.Bool.{cond};
-ghost use Prim.Native.Nat.{ℕ, _-_, _^_, _≤_, _<_};
+ghost use Prim.Native.Nat.{_-_, _^_, _≤_, _<_};
 ghost use lib.ListN.{length};
 ghost use Rattle.rules.specs.Conditions.{conditionCount};
 ghost use Rattle.rules.specs.Answer.{common, letters};

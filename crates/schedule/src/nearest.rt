@@ -1,9 +1,8 @@
 // The valid start nearest to the preferred tick.
 ghost use mathlib.Core.Path.{_≡_};
-ghost use Prim.Native.Nat.{ℕ, _≤_};
-ghost use mathlib.Core.Bool.{Bool};
+ghost use Prim.Native.Nat.{_≤_};
 ghost use lib.Dec.{eqb};
-ghost use lib.ListN.{length, getD};
+ghost use lib.ListN.{length};
 ghost use Rattle.rules.specs.Warmup.{apart};
 ghost use Rattle.rules.specs.Conditions.{allConditions};
 ghost use Rattle.rules.specs.Answer.{nearer, nearest};

@@ -1,10 +1,9 @@
 // The greedy placing, place by place (document 01, Placing and refusing).
 ghost use mathlib.Core.Path.{_≡_};
-ghost use Prim.Native.Nat.{ℕ, _+_, _≤_, _<_};
-ghost use lib.ListN.{length, getD};
+ghost use Prim.Native.Nat.{_+_, _≤_, _<_};
 ghost use Rattle.rules.specs.Outcomes.{starts, activityAt, reply, placed, outcome};
 ghost use Rattle.rules.specs.Conditions.{meets};
-ghost use Rattle.plan.specs.View.{Sized, noStruct, headerView, activityView, planView};
+ghost use Rattle.plan.specs.View.{headerView, activityView, planView};
 ghost use Rattle.placed.specs.View.{scheduleView};
 ghost use Rattle.placed.specs.Ready.{Ready};
 ghost use Rattle.placed.specs.Marked.{Table};
@@ -23,7 +22,7 @@ pub fn reply_to(header: Header, schedule: Schedule, candidate: Activity) -> Outc
 {
     let mut table = [0u32; 4096];
     conditions::fill(header, schedule, candidate, &mut table);
-    let count = header.horizon + 1 - candidate.duration;
+    let count = conditions::start_count(header, candidate);
     super::outcome::reply_by(&table, count, candidate.preferred)
 }
 

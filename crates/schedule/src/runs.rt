@@ -1,9 +1,9 @@
 // The runs of starts that meet a set of conditions, counted and written from the last start to the first.
 ghost use mathlib.Core.Path.{_≡_};
-ghost use mathlib.Core.Bool.{Bool, true, cond, not, _&&_};
-ghost use mathlib.Core.List.{List, map};
-ghost use Prim.Native.Nat.{ℕ, _+_, _-_, _≤_, _<_};
-ghost use lib.ListN.{length, getD, set};
+ghost use mathlib.Core.Bool.{true, cond, not, _&&_};
+ghost use mathlib.Core.List.{map};
+ghost use Prim.Native.Nat.{_+_, _-_, _≤_, _<_};
+ghost use lib.ListN.{length, set};
 ghost use Rattle.rules.specs.Runs.{runsFrom};
 ghost use Rattle.rules.specs.Calls.{sliceAfter};
 ghost use Rattle.schedule.specs.Search.{meetsIn, writes, column};

@@ -1,10 +1,8 @@
 -- `runs_at` meets its contract.
 -- Assumes nothing.
 use mathlib.Core.Path.{sym, ap}
-use native.Mathlib.Omega.{arith}
 use borrow.Author.Needs.{needs}
 use Rattle.rules.specs.Calls.{filling}
-use Rattle.plan.specs.View.{headerView, activityView}
 use Rattle.calls.proofs.Running.{runs-are, columns-as}
 use Rattle.calls.proofs.runs_at.Statement.{statement}
 use Rattle.calls.proofs.runs_at.Tie as tie
@@ -18,19 +16,11 @@ mul-activity c = search needs
 element-copy-out-activity : tie.Need-element-copy-out-activity
 element-copy-out-activity c = search needs
 
-add-count : tie.Need-add-count
-unfolding headerView
-add-count c = let start = c .before .before .before .before .before .before in omega (arith, start .pre .0 .header .horizon .1)
-
-sub-count : tie.Need-sub-count
-unfolding headerView activityView
-sub-count c = let start = c .before .before .before .before .before .before .before in omega (arith, start .pre .0 .each _ (start .pre .1) .duration .1)
+start-count-requires : tie.Need-start-count-requires
+start-count-requires c κs = let start = c .before .before .before .before .before in (start .pre .0 .header, start .pre .0 .each _ (start .pre .1))
 
 write-runs-requires : tie.Need-write-runs-requires
-unfolding headerView activityView
-write-runs-requires c κs =
-    let start = c .before .before .before .before .before .before .before .before .before .before in
-    omega (arith, start .pre .0 .header .horizon .1, start .pre .0 .each _ (start .pre .1) .duration .0)
+write-runs-requires c κs = c .before .before .before .start-count .ensures .1
 
 same-length : tie.Need-same-length
 same-length c = search needs
@@ -41,9 +31,10 @@ same-length-2 c = search needs
 returns : tie.Need-returns
 returns c =
     let written = c .before .before .before .before in
-    let table = written .before .before .before .before .before .before .before .before in
+    let count = written .before .before .before .before in
+    let table = count .before .before .before in
     let start = table .before .before .before in
-    columns-as _ _ (sym (ap (filling _) (runs-are _ (start .pre .0) _ (start .pre .1) _ (table .table-at .ensures) (start .args .set)))) _ _ _ _ _ (written .write-runs .ensures)
+    columns-as _ _ (sym (ap (filling _) (runs-are _ (start .pre .0) _ (start .pre .1) _ (table .table-at .ensures) (start .args .set) _ (count .start-count .ensures .0)))) _ _ _ _ _ (written .write-runs .ensures)
 
 pub runs-at-spec : {M : Type 1} → statement M
 runs-at-spec =
@@ -52,8 +43,7 @@ runs-at-spec =
     table-at-requires
     mul-activity
     element-copy-out-activity
-    add-count
-    sub-count
+    start-count-requires
     write-runs-requires
     same-length
     same-length-2

@@ -3,17 +3,16 @@
 use Prim.Native.Nat.{_-_, _≤_}
 use mathlib.Core.Path.{_≡_}
 use Rattle.rules.specs.Conditions.{meets}
-use Rattle.rules.specs.Outcomes.{starts}
 use Rattle.plan.specs.View.{headerView, activityView}
 use Rattle.placed.specs.View.{scheduleView}
-use Rattle.conditions.proofs.Picked.{Stage, stage-none, stage-more, stage-low, stage-all, count-is, count-few}
+use Rattle.conditions.proofs.Picked.{Stage, stage-none, stage-more, stage-low, stage-all}
 use borrow.Author.Needs.{needs}
 use native.Mathlib.Omega.{arith}
 use Rattle.conditions.proofs.fill.Statement.{statement}
 use Rattle.conditions.proofs.fill.Tie as tie
 
 abbrev Inv-loop : tie.InvT-loop
-Inv-loop header schedule candidate table₀ count c₀ table c = (c ≤ 9) × (count ≡ starts (headerView header) (activityView candidate)) × Stage (meets (headerView header) (scheduleView schedule) (activityView candidate)) count c table
+Inv-loop header schedule candidate table₀ count c₀ table c = (c ≤ 9) × Stage (meets (headerView header) (scheduleView schedule) (activityView candidate)) count c table
 
 abbrev μ-loop : tie.MeasureT-loop
 μ-loop header schedule candidate table₀ count c₀ table c = 9 - c
@@ -21,23 +20,18 @@ abbrev μ-loop : tie.MeasureT-loop
 clear-requires : tie.Need-clear-requires Inv-loop μ-loop
 clear-requires c κs = search needs
 
-add-count : tie.Need-add-count Inv-loop μ-loop
-unfolding headerView
-add-count c = record { fits = omega (arith, c .before .before .before .pre .reached .header .horizon .1) }
-
-sub-count : tie.Need-sub-count Inv-loop μ-loop
-unfolding headerView activityView
-sub-count c = omega (arith, c .before .before .before .before .pre .candidate .duration .1)
+start-count-requires : tie.Need-start-count-requires Inv-loop μ-loop
+start-count-requires c κs = let start = c .before .before in (start .pre .reached .header, start .pre .candidate)
 
 loop-holds : tie.Need-loop-holds Inv-loop μ-loop
-loop-holds c = (omega arith, count-is _ _, stage-none _ _ _ (c .before .before .clear .ensures .0) (c .before .before .clear .ensures .1))
+loop-holds c = (omega arith, stage-none _ _ _ (c .before .clear .ensures .0) (c .before .clear .ensures .1))
 
 mark-requires : tie.Need-mark-requires Inv-loop μ-loop
 mark-requires c κs =
     let at = c .before .before in
-    let s = at .before .before .before .before .before in
-    let stage = at .loop .inv .2 in
-    ((c .before .loop-test .taken, s .pre, at .loop .inv .1), (omega (arith, stage .size, count-few _ _ _ _ (s .pre) (at .loop .inv .1)), stage-low _ _ _ _ (at .loop .inv .0) stage))
+    let count = at .before .start-count .ensures in
+    let stage = at .loop .inv .1 in
+    ((c .before .loop-test .taken, at .before .before .before .before .pre, count .0), (omega (arith, stage .size, count .1), stage-low _ _ _ _ (at .loop .inv .0) stage))
 
 add-c : tie.Need-add-c Inv-loop μ-loop
 add-c c = omega arith
@@ -46,15 +40,13 @@ loop-less : tie.Need-loop-less Inv-loop μ-loop
 loop-less c = omega arith
 
 loop-again : tie.Need-loop-again Inv-loop μ-loop
-loop-again c =
-    let at = c .before .before .before in
-    (omega arith, at .loop .inv .1, stage-more _ _ _ _ _ (at .loop .inv .2) (c .mark .ensures))
+loop-again c = (omega arith, stage-more _ _ _ _ _ (c .before .before .before .loop .inv .1) (c .mark .ensures))
 
 returns : tie.Need-returns Inv-loop μ-loop
 returns c =
     let at = c .before in
     let e : at .loop .c ≡ 9 = omega arith in
-    stage-all _ _ _ _ _ e (at .loop .inv .1) (at .loop .inv .2)
+    stage-all _ _ _ _ _ e (at .before .start-count .ensures .0) (at .loop .inv .1)
 
 pub fill-spec : {M : Type 1} → statement M
 fill-spec =
@@ -63,8 +55,7 @@ fill-spec =
     Inv-loop
     μ-loop
     clear-requires
-    add-count
-    sub-count
+    start-count-requires
     loop-holds
     mark-requires
     add-c

@@ -1,10 +1,9 @@
 -- `letters_of` meets its contract: the set is what is kept after the letters passed.
 -- Assumes nothing.
-use mathlib.Core.Path.{_≡_, refl, sym, _∙_, ap}
-use Prim.Native.Nat.{ℕ, suc, _-_, _^_, _≤_}
+use mathlib.Core.Path.{_≡_, refl}
+use Prim.Native.Nat.{_-_, _^_, _≤_}
 use native.Mathlib.Numerals.{add-one}
 use native.Mathlib.Omega.{arith}
-use borrow.Author.Needs.{needs}
 use Rattle.rules.specs.Conditions.{conditionCount}
 use Rattle.rules.specs.Answer.{common, kept, letters}
 use Rattle.schedule.specs.Search.{testIn}

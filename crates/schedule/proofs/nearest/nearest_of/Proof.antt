@@ -1,11 +1,10 @@
 -- `nearest_of` meets its contract: the best so far is the nearest of the starts passed.
 -- Assumes nothing.
-use mathlib.Core.Path.{_≡_, refl, sym, _∙_, ap}
-use Prim.Native.Nat.{ℕ, _-_, _≤_}
+use mathlib.Core.Path.{_≡_, refl}
+use Prim.Native.Nat.{_-_, _≤_}
 use native.Mathlib.Numerals.{add-one}
 use native.Mathlib.Omega.{arith}
-use lib.ListN.{getD}
-use Rattle.rules.specs.Answer.{nearer, nearest}
+use Rattle.rules.specs.Answer.{nearest}
 use Rattle.schedule.specs.Found.{optionOf, isValid, toPreferred}
 use Rattle.schedule.proofs.nearest.nearest_of.Statement.{statement}
 use Rattle.schedule.proofs.nearest.nearest_of.Tie as tie

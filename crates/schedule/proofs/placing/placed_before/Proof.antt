@@ -1,7 +1,7 @@
 -- `placed_before` meets its contract: the schedule is that of the places passed.
 -- Assumes nothing.
 use mathlib.Core.Path.{_≡_}
-use Prim.Native.Nat.{ℕ, _-_, _≤_}
+use Prim.Native.Nat.{_-_, _≤_}
 use native.Mathlib.Omega.{arith}
 use Rattle.schedule.specs.Places.{PlacedTo}
 use Rattle.schedule.proofs.placing.placed_before.Statement.{statement}

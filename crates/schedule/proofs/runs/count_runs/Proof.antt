@@ -1,11 +1,7 @@
 -- `count_runs` meets its contract: the runs of the starts passed are counted.
 -- Assumes nothing.
-use mathlib.Core.Path.{_≡_, refl, sym, _∙_, ap}
-use mathlib.Core.Bool.{cond, not, _&&_}
-use Prim.Native.Nat.{ℕ, _+_, _-_, _≤_}
+use Prim.Native.Nat.{_-_}
 use native.Mathlib.Omega.{arith}
-use lib.ListN.{length}
-use Rattle.rules.specs.Runs.{runsFrom}
 use Rattle.schedule.specs.Search.{meetsIn}
 use Rattle.schedule.proofs.RunSteps.{Counted, counted-none, counted-more, counted-all}
 use Rattle.schedule.proofs.runs.count_runs.Statement.{statement}
