@@ -1,4 +1,4 @@
 pub mod Called
 pub mod Promise
--- For proofs alone.
+-- For the calls' own functions.
 pub mod Read

@@ -12,6 +12,7 @@ use Rattle.plan.specs.declared.Plan.{Plan as PlanStruct}
 use Rattle.plan.specs.declared.Reading.{Reading as ReadingStruct}
 use Rattle.schedule.specs.Places.{Placeable}
 
+-- the bytes s are accepted as a plan that the struct q holds in the scheduling order
 pub record AcceptedAs (s : List ℕ) (q : PlanStruct) : Type 0 where
   pub plan : Plan
   pub read : reading s ≡ accepted plan
@@ -19,6 +20,7 @@ pub record AcceptedAs (s : List ℕ) (q : PlanStruct) : Type 0 where
   pub count : length (plan .activities) ≡ q .count
   pub placeable : Placeable q
 
+-- what the struct r says of the bytes s
 pub record ReadAs (s : List ℕ) (r : ReadingStruct) : Type 0 where
   pub refused : r .number ≢ 0 → reading s ≡ no (r .number) (r .line)
   pub accepted : r .number ≡ 0 → AcceptedAs s (r .plan)

@@ -31,7 +31,7 @@ mark-requires c κs =
     let at = c .before .before in
     let count = at .before .start-count .ensures in
     let stage = at .loop .inv .1 in
-    ((c .before .loop-test .taken, at .before .before .before .before .pre, count .0), (omega (arith, stage .size, count .1), stage-low _ _ _ _ (at .loop .inv .0) stage))
+    ((omega (arith, c .before .loop-test .taken), at .before .before .before .before .pre, count .0), (omega (arith, stage .size, count .1), stage-low _ _ _ _ (at .loop .inv .0) stage))
 
 add-c : tie.Need-add-c Inv-loop μ-loop
 add-c c = omega arith
