@@ -40,7 +40,7 @@ held-go q s (accepted p) e f = record { plan = p; read = e; view = cc }
 held-go q s (refused r) e f = let z : _≡_ {A = ℕ} 0 1 = cc in absurd (omega arith)
 
 -- the places of a well-formed plan are well-formed
-each-formed : (p : Plan) → WellFormed p → (k : ℕ) → k < length (order (p .activities)) → ActivityFormed (p .header) (nthActivity (order (p .activities)) k)
+pub each-formed : (p : Plan) → WellFormed p → (k : ℕ) → k < length (order (p .activities)) → ActivityFormed (p .header) (nthActivity (order (p .activities)) k)
 each-formed p F k h =
     let O = order-right (p .activities) in
     rw (O .same k h) (F .each _ (at-mem noActivity (p .activities) (O .line k) (O .known k h)))

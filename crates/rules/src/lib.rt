@@ -27,6 +27,7 @@ pub enum CountAnswer {
 }
 
 // A run of starts: its first and its last.
+#[repr(C)]
 pub struct Interval {
     pub first: u32,
     pub last: u32,

@@ -1,0 +1,5 @@
+pub mod Sizes
+pub mod Unpacking
+pub mod Filled
+pub mod Filling
+pub mod Scratch

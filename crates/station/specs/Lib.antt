@@ -1,0 +1,5 @@
+pub mod Packing
+pub mod Exported
+pub mod Unpacking
+-- For the station's own functions.
+pub mod Columns
