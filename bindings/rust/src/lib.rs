@@ -1,0 +1,249 @@
+//! The planner of the seabed stations, proved in Rattle, as safe Rust.
+//!
+//! The calls are those of document 01, over a plan file's bytes. An activity is named by its place, its position in the
+//! scheduling order, from 0.
+//!
+//! ```
+//! use bovkact_planner::{outcome, report, starts, Conditions, Outcome, REPORT_MOST};
+//!
+//! // 20 ticks; activity 5 takes 4 of them, wants to start at 10, and may start from 0 to 3 and from 12 to 20.
+//! let plan = b"plan\t20\t840\t100\t20\t40\t1\t0\t1\t10\t50\t1\n\
+//!              act\t5\t1\t4\t10\t0:3,12:20\t-\t-\t-\t-\t0\t0\t0\t0\t0\n";
+//!
+//! assert_eq!(outcome(plan, 0)?, Outcome::Placed { start: 12 });
+//! assert_eq!(starts(plan, 0, Conditions::ALL)?, [0..=3, 12..=16]);
+//! let mut room = [0; REPORT_MOST];
+//! assert_eq!(report(plan, &mut room)?, b"5\tplaced\t12\t16\nend\t1\t0\t60\t0\n");
+//! # Ok::<(), bovkact_planner::Refusal>(())
+//! ```
+//!
+//! Every plan is allowed, whatever its bytes and its length, and so are every place, set and slice: each draws an
+//! answer or one [`Refusal`], and each call ends. A call that is refused writes nothing; what stands behind an answer
+//! in a lent slice remains as it was. The calls use no heap, but for the list that [`starts`] gives, keep nothing from
+//! one call to the next and may run in several threads at once. A call takes up to 400 KB of stack, [`starts`] 16 KB
+//! more; a thread of Rust has 2 MB unless it is told otherwise.
+//!
+//! # Why it is safe
+//!
+//! The three `unsafe` blocks are the three calls of the library. Its functions are proved for every byte string, place,
+//! set and lent slice, so all that is left to the caller is what a reference of Rust says already:
+//!
+//! - A slice is lent as its own pointer and length. The pointer is not null and is aligned, for an empty slice too, and
+//!   a slice has at most `isize::MAX` bytes.
+//! - A plan lent as `&[u8]` is only read. An output slice is lent by `&mut`, so that it overlaps no plan and no other
+//!   thread sees it. The library keeps no pointer.
+//! - What the library may write, bytes and records of two `u32`, is valid whatever its bits; [`Interval`] is laid out
+//!   as in C.
+//! - A call never unwinds. In a thread whose stack is too small it ends the process, as any function of Rust does: the
+//!   library's code touches each page of its stack in turn and so meets the guard page.
+//!
+//! No memory is trusted to an answer: the front of a slice is taken by an index that Rust checks. An answer that the
+//! interface doesn't know (another number of a refusal, a length beyond the slice) panics. It can't come from the
+//! proved library, only from another one linked in its place.
+
+#![deny(missing_docs)]
+#![deny(unsafe_op_in_unsafe_fn)]
+
+mod conditions;
+mod refusal;
+
+pub use conditions::{Condition, Conditions};
+pub use refusal::{Reason, Refusal};
+
+use std::ops::RangeInclusive;
+
+#[cfg(not(all(target_arch = "x86_64", unix)))]
+compile_error!("libstation.a is for x86-64 and the calling convention of Unix");
+
+/// The most bytes of a plan; a longer one is refused.
+pub const PLAN_MOST: usize = 60_000;
+/// The most activities of a plan.
+pub const ACTIVITIES_MOST: usize = 64;
+/// Bytes in which every report has room.
+pub const REPORT_MOST: usize = 1_568;
+/// Records in which every answer of [`starts_into`] has room.
+pub const RUNS_MOST: usize = 2_048;
+
+/// How an activity is answered.
+///
+/// ```
+/// use bovkact_planner::{outcome, Outcome};
+///
+/// let plan = include_bytes!("../../../examples/worked.plan");
+/// for place in 0..4 {
+///     match outcome(plan, place)? {
+///         Outcome::Placed { start } => println!("place {place} starts at {start}"),
+///         Outcome::Refused { conditions } => println!("place {place} is refused: {conditions}"),
+///     }
+/// }
+/// # Ok::<(), bovkact_planner::Refusal>(())
+/// ```
+#[derive(Clone, Copy, Debug, PartialEq, Eq, Hash)]
+pub enum Outcome {
+    /// It is placed.
+    Placed {
+        /// Its first tick.
+        start: u32,
+    },
+    /// It is refused.
+    Refused {
+        /// The conditions that have no start in common; without any one of them the others have.
+        conditions: Conditions,
+    },
+}
+
+/// A run of starts, both bounds included.
+///
+/// ```
+/// use bovkact_planner::Interval;
+/// use std::ops::RangeInclusive;
+///
+/// let run = RangeInclusive::from(Interval { first: 15, last: 18 });
+/// assert!(run.contains(&18) && !run.contains(&14));
+/// ```
+#[derive(Clone, Copy, Debug, Default, PartialEq, Eq, Hash)]
+#[repr(C)]
+pub struct Interval {
+    /// The first start.
+    pub first: u32,
+    /// The last start.
+    pub last: u32,
+}
+
+impl From<Interval> for RangeInclusive<u32> {
+    fn from(run: Interval) -> RangeInclusive<u32> {
+        run.first..=run.last
+    }
+}
+
+// As in include/planner.h.
+extern "C" {
+    fn planner_outcome(plan: *const u8, plan_length: usize, place: usize) -> u64;
+    fn planner_report(plan: *const u8, plan_length: usize, out: *mut u8, out_length: usize) -> u64;
+    fn planner_starts(
+        plan: *const u8,
+        plan_length: usize,
+        place: usize,
+        set: u32,
+        out: *mut Interval,
+        out_count: usize,
+    ) -> u64;
+}
+
+// The value of an answer, or its refusal.
+fn value(answer: u64) -> Result<u32, Refusal> {
+    let value = answer as u32;
+    match (answer >> 32) as u8 {
+        0 => Ok(value),
+        number => {
+            let Some(reason) = Reason::numbered(number) else {
+                panic!("document 01 has no refusal {number}: libstation.a isn't the planner");
+            };
+            Err(Refusal { reason, line: value })
+        }
+    }
+}
+
+/// How the activity at a place is answered.
+///
+/// ```
+/// use bovkact_planner::{outcome, Conditions, Outcome, Reason};
+///
+/// let plan = include_bytes!("../../../examples/worked.plan");
+/// assert_eq!(outcome(plan, 0)?, Outcome::Placed { start: 10 });
+/// assert_eq!(outcome(plan, 1)?, Outcome::Refused { conditions: Conditions::W | Conditions::D });
+/// assert_eq!(outcome(plan, 4).unwrap_err().reason, Reason::NoSuchPlace);
+/// # Ok::<(), bovkact_planner::Refusal>(())
+/// ```
+pub fn outcome(plan: &[u8], place: usize) -> Result<Outcome, Refusal> {
+    // SAFETY: the plan is a slice lent for the call, which only reads it.
+    let answer = unsafe { planner_outcome(plan.as_ptr(), plan.len(), place) };
+    let value = value(answer)?;
+    if answer >> 40 & 1 == 1 {
+        Ok(Outcome::Placed { start: value })
+    } else {
+        Ok(Outcome::Refused { conditions: Conditions::from_bits(value) })
+    }
+}
+
+/// The report of a plan, written to the front of `out` and borrowed from it; [`REPORT_MOST`] bytes are always enough.
+///
+/// It is ASCII: a line for each place, then the end line.
+///
+/// ```
+/// use bovkact_planner::{report, Reason, REPORT_MOST};
+///
+/// let plan = include_bytes!("../../../examples/worked.plan");
+/// let mut room = [0; REPORT_MOST];
+/// let text = report(plan, &mut room)?;
+/// assert_eq!(text, include_bytes!("../../../examples/worked.report"));
+/// assert_eq!(report(plan, &mut []).unwrap_err().reason, Reason::SliceTooShort);
+/// # Ok::<(), bovkact_planner::Refusal>(())
+/// ```
+pub fn report<'a>(plan: &[u8], out: &'a mut [u8]) -> Result<&'a [u8], Refusal> {
+    // SAFETY: the plan is a slice lent for the call, which only reads it; `out` is one that nobody else has, to be
+    // written.
+    let answer = unsafe { planner_report(plan.as_ptr(), plan.len(), out.as_mut_ptr(), out.len()) };
+    Ok(&out[..value(answer)? as usize])
+}
+
+/// The starts of the activity at a place that meet every condition of a set, beside the activities placed at earlier
+/// places: the longest unbroken runs of them, rising.
+///
+/// ```
+/// use bovkact_planner::{starts, Conditions, Reason};
+///
+/// let plan = include_bytes!("../../../examples/worked.plan");
+/// assert_eq!(starts(plan, 1, Conditions::NONE)?, [0..=17]);
+/// assert_eq!(starts(plan, 1, Conditions::W)?, [0..=8]);
+/// assert_eq!(starts(plan, 1, Conditions::W | Conditions::D)?, []);
+/// assert_eq!(starts(plan, 1, Conditions::from_bits(512)).unwrap_err().reason, Reason::SetTooLarge);
+/// # Ok::<(), bovkact_planner::Refusal>(())
+/// ```
+pub fn starts(plan: &[u8], place: usize, set: Conditions) -> Result<Vec<RangeInclusive<u32>>, Refusal> {
+    let mut room = [Interval::default(); RUNS_MOST];
+    Ok(starts_into(plan, place, set, &mut room)?.iter().map(|&run| run.into()).collect())
+}
+
+/// [`starts`] without a heap: the runs, written to the front of `out` and borrowed from it; [`RUNS_MOST`] records are
+/// always enough.
+///
+/// ```
+/// use bovkact_planner::{starts_into, Conditions, Interval, Reason};
+///
+/// let plan = include_bytes!("../../../examples/worked.plan");
+/// let mut room = [Interval::default(); 8];
+/// assert_eq!(starts_into(plan, 3, Conditions::ALL, &mut room)?, [Interval { first: 15, last: 18 }]);
+/// assert_eq!(starts_into(plan, 3, Conditions::ALL, &mut []).unwrap_err().reason, Reason::SliceTooShort);
+/// # Ok::<(), bovkact_planner::Refusal>(())
+/// ```
+pub fn starts_into<'a>(
+    plan: &[u8],
+    place: usize,
+    set: Conditions,
+    out: &'a mut [Interval],
+) -> Result<&'a [Interval], Refusal> {
+    // SAFETY: as in `report`; a record is laid out as in C, and all its bits are valid.
+    let answer = unsafe { planner_starts(plan.as_ptr(), plan.len(), place, set.bits(), out.as_mut_ptr(), out.len()) };
+    Ok(&out[..value(answer)? as usize])
+}
+
+#[cfg(test)]
+mod tests {
+    use super::*;
+
+    #[test]
+    fn every_number_has_its_reason() {
+        assert_eq!(value(7), Ok(7));
+        for number in 1..=12 {
+            let refusal = value((number as u64) << 32 | 9).unwrap_err();
+            assert_eq!((refusal.reason.number(), refusal.line), (number, 9));
+        }
+    }
+
+    #[test]
+    #[should_panic(expected = "no refusal 13")]
+    fn an_unknown_number_panics() {
+        let _ = value(13 << 32);
+    }
+}

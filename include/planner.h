@@ -1,0 +1,189 @@
+/* The calls of the seabed station planner (document 01), for C99 and C++. Link with libstation.a.
+ *
+ * A plan is the bytes of a plan file as they are, with no NUL behind them. An activity is named by its place, its
+ * position in the scheduling order, from 0. Each call reads the plan, does its whole work and gives its answer as one
+ * number, which the functions below take apart:
+ *
+ *     bits 0 to 31   what was asked for: a start, a set of conditions, a length or a count; of a refusal, its line
+ *     bits 32 to 39  the number of the refusal; 0 where the call is answered
+ *     bit 40         1 where an activity is placed
+ *     bits 41 to 63  0
+ *
+ * Every plan is allowed, whatever its bytes and its length, and so are every place, set and slice: each draws an answer
+ * or one refusal, and every call ends. A call that is refused writes nothing. A call that is answered writes the front
+ * of the slice lent to it; all behind that remains as it was.
+ *
+ * Pointers: each points to as many bytes or records as the call is told, aligned as its type asks; with a count of 0
+ * nothing is read or written through it, and it may be NULL. The plan is only read. The plan and the slice lent may not
+ * overlap; until the call returns, nobody else may write the plan, or read or write the slice. Neither may have more
+ * than PTRDIFF_MAX bytes. No pointer is kept.
+ *
+ * The calls use no heap, keep nothing from one call to the next, and may run in several threads at once. A call takes
+ * up to 400 KB of stack: give the task that calls as much. The library itself needs memcpy and memset, and no more. */
+#ifndef PLANNER_H
+#define PLANNER_H
+
+#include <stddef.h>
+#include <stdint.h>
+
+#ifdef __cplusplus
+extern "C" {
+#endif
+
+#define PLANNER_PLAN_MOST 60000    /* the most bytes of a plan; a longer one is refused */
+#define PLANNER_ACTIVITIES_MOST 64 /* the most activities of a plan */
+#define PLANNER_REPORT_MOST 1568   /* the most bytes that planner_report writes */
+#define PLANNER_RUNS_MOST 2048     /* the most records that planner_starts writes */
+
+/* A run of starts, both bounds included. */
+struct planner_interval {
+    uint32_t first;
+    uint32_t last;
+};
+
+/* Why a call is refused, by document 01's numbers; only the first in its order of checks is given. With 1 to 9 the plan
+ * itself is refused, by every call alike; 10 to 12 are of the call. Lines are counted from 1. */
+enum planner_refusal_number {
+    PLANNER_REFUSAL_NONE = 0,                /* no refusal */
+    PLANNER_REFUSAL_PLAN_TOO_LONG = 1,       /* over 60,000 bytes; line 0 */
+    PLANNER_REFUSAL_LINE_WRONG = 2,          /* first word or field count wrong, or no LF */
+    PLANNER_REFUSAL_MALFORMED = 3,           /* malformed number or item, or an empty field */
+    PLANNER_REFUSAL_OUT_OF_RANGE = 4,        /* number out of range */
+    PLANNER_REFUSAL_TOO_MANY_ACTIVITIES = 5, /* 65th activity line */
+    PLANNER_REFUSAL_ID_REPEATED = 6,         /* id of an earlier line */
+    PLANNER_REFUSAL_AFTER_NOT_EARLIER = 7,   /* `after` names no activity at an earlier place */
+    PLANNER_REFUSAL_LIST_WRONG = 8,          /* list not rising, a > b, or too many items */
+    PLANNER_REFUSAL_HANDOVER_UNMET = 9,      /* charge at T with nothing placed is under the handover charge; line 0 */
+    PLANNER_REFUSAL_SLICE_TOO_SHORT = 10,    /* lent slice too short for the answer; line 0 */
+    PLANNER_REFUSAL_NO_SUCH_PLACE = 11,      /* place not below the activity count; line 0 */
+    PLANNER_REFUSAL_SET_TOO_LARGE = 12       /* set over 511; line 0 */
+};
+
+/* The nine conditions that a start must meet. A set of them is their sum. */
+enum planner_condition {
+    PLANNER_CONDITION_W = 1,     /* the start is in a window */
+    PLANNER_CONDITION_D = 2,     /* all that it comes after is placed and has ended */
+    PLANNER_CONDITION_U = 4,     /* its units are free */
+    PLANNER_CONDITION_S = 8,     /* every need is met, its own and those of the activities placed */
+    PLANNER_CONDITION_E = 16,    /* the engines stay within their limit */
+    PLANNER_CONDITION_P = 32,    /* the peaks stay within their limit */
+    PLANNER_CONDITION_B = 64,    /* the charge stays at the floor or above it, and reaches the handover charge */
+    PLANNER_CONDITION_V = 128,   /* the volumes stay within their limit */
+    PLANNER_CONDITION_H = 256,   /* it can be warmed up within the plan */
+    PLANNER_CONDITIONS_ALL = 511
+};
+
+/* How the activity at a place is answered: placed at a start, or refused with the conditions that stand in its way.
+ *
+ *   plan, plan_length  the plan
+ *   place              the place
+ *
+ * The answer: planner_refusal and planner_line (1 to 9, 11); where there is no refusal, planner_is_placed, and then
+ * planner_start or planner_conditions. Nothing is written. */
+uint64_t planner_outcome(const uint8_t *plan, size_t plan_length, size_t place);
+
+/* The report of the plan: a line for each place, then the end line, in ASCII, each ended by LF; no NUL behind them.
+ *
+ *   plan, plan_length  the plan
+ *   out, out_length    the slice lent, in bytes; PLANNER_REPORT_MOST are always enough
+ *
+ * The answer: planner_refusal and planner_line (1 to 10); where there is no refusal, planner_written, the length of the
+ * report. Then that many bytes at the front of out are the report, and the others as before; on a refusal all are. */
+uint64_t planner_report(const uint8_t *plan, size_t plan_length, uint8_t *out, size_t out_length);
+
+/* The starts of the activity at a place that meet every condition of a set, beside the activities placed at earlier
+ * places: the longest unbroken runs of them, rising. Set 0 gives every start, 0 to T - d; PLANNER_CONDITIONS_ALL gives
+ * the valid ones.
+ *
+ *   plan, plan_length  the plan
+ *   place              the place
+ *   set                the conditions, added: 0 to PLANNER_CONDITIONS_ALL
+ *   out, out_count     the slice lent, in records; PLANNER_RUNS_MOST are always enough
+ *
+ * The answer: planner_refusal and planner_line (1 to 12); where there is no refusal, planner_written, the count of
+ * runs, 0 where no start meets the set. Then that many records at the front of out are the runs, and the others as
+ * before; on a refusal all are. */
+uint64_t planner_starts(const uint8_t *plan, size_t plan_length, size_t place, uint32_t set,
+                        struct planner_interval *out, size_t out_count);
+
+/* The parts of an answer. It doesn't say which call gave it: each function is for the calls that it names. */
+
+/* Of any call: the number of its refusal (enum planner_refusal_number); 0 where it is answered. */
+static inline uint32_t planner_refusal(uint64_t answer)
+{
+    return (uint32_t)(answer >> 32 & 0xff);
+}
+
+/* Of any call: the line that its refusal is about; 0 where that is no one line, or the call is answered. */
+static inline uint32_t planner_line(uint64_t answer)
+{
+    return planner_refusal(answer) != 0 ? (uint32_t)answer : 0;
+}
+
+/* Of planner_outcome: 1 where the activity is placed; 0 where the activity or the call is refused. */
+static inline int planner_is_placed(uint64_t answer)
+{
+    return (int)(answer >> 40 & 1);
+}
+
+/* Of planner_outcome: the start of a placed activity; 0 where the activity or the call is refused. */
+static inline uint32_t planner_start(uint64_t answer)
+{
+    return planner_is_placed(answer) ? (uint32_t)answer : 0;
+}
+
+/* Of planner_outcome: the conditions of a refused activity; 0 where it is placed, or the call is refused. */
+static inline uint32_t planner_conditions(uint64_t answer)
+{
+    return planner_refusal(answer) == 0 && !planner_is_placed(answer) ? (uint32_t)answer : 0;
+}
+
+/* Of planner_report: the bytes written; of planner_starts: the records; 0 where the call is refused. */
+static inline size_t planner_written(uint64_t answer)
+{
+    return planner_refusal(answer) == 0 ? (uint32_t)answer : 0;
+}
+
+/* A refusal's number in words; "unknown refusal" for a number over 12. */
+static inline const char *planner_refusal_text(uint32_t number)
+{
+    switch (number) {
+    case PLANNER_REFUSAL_NONE: return "no refusal";
+    case PLANNER_REFUSAL_PLAN_TOO_LONG: return "over 60,000 bytes";
+    case PLANNER_REFUSAL_LINE_WRONG: return "first word or field count wrong, or no LF";
+    case PLANNER_REFUSAL_MALFORMED: return "malformed number or item, or an empty field";
+    case PLANNER_REFUSAL_OUT_OF_RANGE: return "number out of range";
+    case PLANNER_REFUSAL_TOO_MANY_ACTIVITIES: return "65th activity line";
+    case PLANNER_REFUSAL_ID_REPEATED: return "id of an earlier line";
+    case PLANNER_REFUSAL_AFTER_NOT_EARLIER: return "`after` names no activity at an earlier place";
+    case PLANNER_REFUSAL_LIST_WRONG: return "list not rising, a > b, or too many items";
+    case PLANNER_REFUSAL_HANDOVER_UNMET: return "charge at T with nothing placed is under the handover charge";
+    case PLANNER_REFUSAL_SLICE_TOO_SHORT: return "lent slice too short for the answer";
+    case PLANNER_REFUSAL_NO_SUCH_PLACE: return "place not below the activity count";
+    case PLANNER_REFUSAL_SET_TOO_LARGE: return "set over 511";
+    default: return "unknown refusal";
+    }
+}
+
+/* The letter of one condition, as the report has it; '?' for any other number. */
+static inline char planner_letter(uint32_t condition)
+{
+    switch (condition) {
+    case PLANNER_CONDITION_W: return 'W';
+    case PLANNER_CONDITION_D: return 'D';
+    case PLANNER_CONDITION_U: return 'U';
+    case PLANNER_CONDITION_S: return 'S';
+    case PLANNER_CONDITION_E: return 'E';
+    case PLANNER_CONDITION_P: return 'P';
+    case PLANNER_CONDITION_B: return 'B';
+    case PLANNER_CONDITION_V: return 'V';
+    case PLANNER_CONDITION_H: return 'H';
+    default: return '?';
+    }
+}
+
+#ifdef __cplusplus
+}
+#endif
+
+#endif
