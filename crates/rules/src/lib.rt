@@ -26,7 +26,7 @@ pub enum CountAnswer {
     No(Refusal),
 }
 
-// A run of starts: its first and its last.
+// A run of starts: its first and its last. It is laid out as in C, for `station`.
 #[repr(C)]
 pub struct Interval {
     pub first: u32,

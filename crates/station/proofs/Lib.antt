@@ -1,5 +1,7 @@
 pub mod Sizes
 pub mod Unpacking
-pub mod Filled
-pub mod Filling
-pub mod Scratch
+pub mod Promise
+pub mod StartsExported
+-- For the two proofs by hand.
+pub mod LocalArray
+pub mod PutRuns

@@ -1,7 +1,7 @@
--- Unpacking gives every answer of the calls back.
+-- Unpacking gives every answer of the calls back, by the sizes of what it can hold.
 -- Assumes nothing.
-use Prim.Native.Nat.{ℕ, _<_, _≤_}
-use mathlib.Core.Path.{_≡_, refl, sym, _∙_, ap}
+use Prim.Native.Nat.{ℕ, _^_, _<_, _≤_}
+use mathlib.Core.Path.{_≡_, refl, sym, _∙_, ap, subst}
 use mathlib.Core.Logic.{_≢_}
 use mathlib.Core.List.{List, [], _∷_}
 use native.Mathlib.Omega.{arith}
@@ -11,7 +11,7 @@ use borrow.Author.Tests.{ne-eqb, ltb-true, ltb-false, leb-false}
 use Rattle.rules.specs.Plan.{Activity, Plan, Schedule}
 use Rattle.rules.specs.Reading.{Reading, accepted, refused, reading}
 use Rattle.rules.specs.WellFormed.{WellFormed}
-use Rattle.rules.specs.Calls.{Terms, refusal, full, outcomeValues, Filled, outcomeOf, outcomeCall}
+use Rattle.rules.specs.Calls.{Terms, refusal, full, outcomeValues, Filled, refusing, outcomeOf, outcomeCall, reportCall, startsCall}
 use Rattle.rules.specs.Demand.{Right, Demand3}
 use Rattle.rules.specs.declared.Outcome.{Outcome}
 use Rattle.rules.specs.declared.Outcome.the-variants.{Placed, Refused}
@@ -19,86 +19,134 @@ use Rattle.rules.proofs.Accepted.{accepted-formed}
 use Rattle.rules.proofs.Demand.{demand3}
 use Rattle.rules.proofs.Says.{either-way}
 use Rattle.calls.proofs.Running.{too-long, fitting}
-use Rattle.station.specs.Packing.{packedValues, packed, valueIn, numberIn, placedIn, outcomeIn, countIn}
-use Rattle.station.specs.Unpacking.{reportMost, runsMost, Unpacking}
+use Rattle.station.specs.Packing.{packedValues, packed, valueIn, refusalIn, lineIn, placedIn, startIn, conditionsIn, writtenIn, outcomeIn, countIn}
+use Rattle.station.specs.Unpacking.{reportMost, runsMost, OutcomeUnpacked, CountUnpacked, Unpacking}
 use Rattle.station.proofs.Sizes.{refusal-small, AnswersAs, refuses, fills, report-as, starts-as}
 
--- ---- the parts of a number
-pub refusal-number : (k n : ℕ) → k < 256 → n < 4294967296 → numberIn (packed (refusal k n)) ≡ k
-unfolding numberIn packed packedValues
-refusal-number k n h l = omega arith
+-- ---- the parts of a refusal, of an outcome, of a count
+module _ (k n : ℕ) (h : k < 256) (l : n < 4294967296) where
+  refusal-refusal : refusalIn (packed (refusal k n)) ≡ k
+  unfolding refusalIn packed packedValues
+  refusal-refusal = omega arith
 
-refusal-line : (k n : ℕ) → n < 4294967296 → valueIn (packed (refusal k n)) ≡ n
-unfolding valueIn packed packedValues
-refusal-line k n l = omega arith
+  refusal-value : valueIn (packed (refusal k n)) ≡ n
+  unfolding valueIn packed packedValues
+  refusal-value = omega arith
 
-pub count-number : (n : ℕ) → n < 4294967296 → numberIn (packed (full (n ∷ []))) ≡ 0
-unfolding numberIn packed packedValues
-count-number n h = omega arith
+  refusal-bits : packed (refusal k n) < 2 ^ 40
+  unfolding packed packedValues
+  refusal-bits = omega arith
 
-pub count-value : (n : ℕ) → n < 4294967296 → valueIn (packed (full (n ∷ []))) ≡ n
-unfolding valueIn packed packedValues
-count-value n h = omega arith
+module _ (placed v : ℕ) (h : placed ≤ 1) (l : v < 4294967296) where
+  outcome-refusal : refusalIn (packed (full (placed ∷ v ∷ []))) ≡ 0
+  unfolding refusalIn packed packedValues
+  outcome-refusal = omega arith
 
-answer-number : (placed v : ℕ) → placed ≤ 1 → v < 4294967296 → numberIn (packed (full (placed ∷ v ∷ []))) ≡ 0
-unfolding numberIn packed packedValues
-answer-number placed v h l = omega arith
+  outcome-value : valueIn (packed (full (placed ∷ v ∷ []))) ≡ v
+  unfolding valueIn packed packedValues
+  outcome-value = omega arith
 
-answer-value : (placed v : ℕ) → v < 4294967296 → valueIn (packed (full (placed ∷ v ∷ []))) ≡ v
-unfolding valueIn packed packedValues
-answer-value placed v l = omega arith
+  outcome-mark : placedIn (packed (full (placed ∷ v ∷ []))) ≡ placed
+  unfolding placedIn packed packedValues
+  outcome-mark = omega arith
 
-answer-placed : (placed v : ℕ) → v < 4294967296 → placedIn (packed (full (placed ∷ v ∷ []))) ≡ placed
-unfolding placedIn packed packedValues
-answer-placed placed v l = omega arith
+  outcome-bits : packed (full (placed ∷ v ∷ [])) < 2 ^ 41
+  unfolding packed packedValues
+  outcome-bits = omega arith
+
+module _ (n : ℕ) (l : n < 4294967296) where
+  count-refusal : refusalIn (packed (full (n ∷ []))) ≡ 0
+  unfolding refusalIn packed packedValues
+  count-refusal = omega arith
+
+  count-value : valueIn (packed (full (n ∷ []))) ≡ n
+  unfolding valueIn packed packedValues
+  count-value = omega arith
+
+  count-bits : packed (full (n ∷ [])) < 2 ^ 40
+  unfolding packed packedValues
+  count-bits = omega arith
+
+no-mark : (x : ℕ) → x < 2 ^ 40 → placedIn x ≡ 0
+unfolding placedIn
+no-mark x h = omega arith
 
 -- ---- an answer unpacked
-outcome-refusal : (k n : ℕ) → 1 ≤ k → k < 256 → n < 4294967296 → outcomeIn (packed (refusal k n)) ≡ refusal k n
-unfolding outcomeIn
-outcome-refusal k n f h l = rw (refusal-number k n h l, refusal-line k n l, ne-eqb k 0 (λ e. omega arith))
+refusal-outcome : (k n : ℕ) → 1 ≤ k → k < 256 → n < 4294967296 → OutcomeUnpacked (refusal k n) (packed (refusal k n))
+unfolding outcomeIn lineIn
+refusal-outcome k n f h l =
+    record {
+      answer = rw (refusal-refusal k n h l, ne-eqb k 0 (λ e. omega arith), refusal-value k n h l);
+      unmarked = λ _. no-mark _ (refusal-bits k n h l);
+      bits = omega (arith, refusal-bits k n h l);
+    }
 
-count-refusal : (k n : ℕ) → 1 ≤ k → k < 256 → n < 4294967296 → countIn (packed (refusal k n)) ≡ refusal k n
-unfolding countIn
-count-refusal k n f h l = rw (refusal-number k n h l, refusal-line k n l, ne-eqb k 0 (λ e. omega arith))
+placed-outcome : (s : ℕ) → s < 4294967296 → OutcomeUnpacked (full (1 ∷ s ∷ [])) (packed (full (1 ∷ s ∷ [])))
+unfolding outcomeIn startIn
+placed-outcome s h =
+    record {
+      answer = rw (outcome-refusal 1 s (omega arith) h, outcome-mark 1 s (omega arith) h, outcome-value 1 s (omega arith) h);
+      unmarked = λ f. absurd (f (outcome-refusal 1 s (omega arith) h));
+      bits = outcome-bits 1 s (omega arith) h;
+    }
 
-count-full : (n : ℕ) → n < 4294967296 → countIn (packed (full (n ∷ []))) ≡ full (n ∷ [])
-unfolding countIn
-count-full n h = rw (count-number n h, count-value n h)
+refused-outcome : (m : ℕ) → m < 4294967296 → OutcomeUnpacked (full (0 ∷ m ∷ [])) (packed (full (0 ∷ m ∷ [])))
+unfolding outcomeIn conditionsIn
+refused-outcome m h =
+    record {
+      answer = rw (outcome-refusal 0 m (omega arith) h, outcome-mark 0 m (omega arith) h, outcome-value 0 m (omega arith) h);
+      unmarked = λ f. absurd (f (outcome-refusal 0 m (omega arith) h));
+      bits = outcome-bits 0 m (omega arith) h;
+    }
 
-outcome-full : (placed v : ℕ) → placed ≤ 1 → v < 4294967296 → outcomeIn (packed (full (placed ∷ v ∷ []))) ≡ full (placed ∷ v ∷ [])
-unfolding outcomeIn
-outcome-full placed v h l = rw (answer-number placed v h l, answer-value placed v l, answer-placed placed v l)
+refusal-count : {A : Type 0} (k n : ℕ) → 1 ≤ k → k < 256 → n < 4294967296 → CountUnpacked {A = A} (refusing k n) (packed (refusal k n))
+unfolding countIn lineIn writtenIn
+refusal-count k n f h l =
+    record {
+      answer = rw (refusal-refusal k n h l, ne-eqb k 0 (λ e. omega arith), refusal-value k n h l);
+      written = rw (refusal-refusal k n h l, ne-eqb k 0 (λ e. omega arith)) refl;
+      bits = refusal-bits k n h l;
+    }
+
+full-count : {A : Type 0} (xs : List A) → length xs < 4294967296 → CountUnpacked (record { terms = full (length xs ∷ []); written = xs }) (packed (full (length xs ∷ [])))
+unfolding countIn writtenIn
+full-count xs h =
+    record {
+      answer = rw (count-refusal (length xs) h, count-value (length xs) h);
+      written = rw (count-refusal (length xs) h, count-value (length xs) h) refl;
+      bits = count-bits (length xs) h;
+    }
 
 -- ---- over what is read
-outcome-back : (t u : Terms) → t ≡ u → outcomeIn (packed u) ≡ u → outcomeIn (packed t) ≡ t
-outcome-back t u e b = rw e b
+outcome-as : (t u : Terms) → t ≡ u → OutcomeUnpacked u (packed u) → OutcomeUnpacked t (packed t)
+outcome-as t u e U = rw e U
 
-count-back : (t u : Terms) → t ≡ u → countIn (packed u) ≡ u → countIn (packed t) ≡ t
-count-back t u e b = rw e b
+count-as : {A : Type 0} (f g : Filled A) → f ≡ g → CountUnpacked g (packed (g .terms)) → CountUnpacked f (packed (f .terms))
+count-as f g e U = rw e U
 
 -- a start is at most the horizon, a set at most that of all conditions
-answer-back : (p : Plan) → WellFormed p → (ps : Schedule) (a : Activity) (o : Outcome) → Right (p .header) ps a o → outcomeIn (packed (full (outcomeValues o))) ≡ full (outcomeValues o)
+answer-outcome : (p : Plan) → WellFormed p → (ps : Schedule) (a : Activity) (o : Outcome) → Right (p .header) ps a o → OutcomeUnpacked (full (outcomeValues o)) (packed (full (outcomeValues o)))
 unfolding outcomeValues
-answer-back p F ps a (Placed s) R = outcome-full 1 s (omega arith) (omega (arith, R .placed s refl .valid .start, F .header .horizon))
-answer-back p F ps a (Refused m) R = outcome-full 0 m (omega arith) (omega (arith, R .refused m refl .small))
+answer-outcome p F ps a (Placed s) R = placed-outcome s (omega (arith, R .placed s refl .valid .start, F .header .horizon))
+answer-outcome p F ps a (Refused m) R = refused-outcome m (omega (arith, R .refused m refl .small))
 
-outcome-of : (s : List ℕ) (x : Reading) → reading s ≡ x → (k : ℕ) → outcomeIn (packed (outcomeCall s k)) ≡ outcomeCall s k
+outcome-of : (s : List ℕ) (x : Reading) → reading s ≡ x → (k : ℕ) → OutcomeUnpacked (outcomeCall s k) (packed (outcomeCall s k))
 outcome-of s (refused q) e k =
     let small = refusal-small s q e in
-    outcome-back (outcomeCall s k) (refusal (q .number) (q .line)) (unfold outcomeCall outcomeOf in (rw e)) (outcome-refusal _ _ (small .0 .0) (omega (arith, small)) (omega (arith, small)))
+    outcome-as (outcomeCall s k) (refusal (q .number) (q .line)) (unfold outcomeCall outcomeOf in (rw e)) (refusal-outcome _ _ (small .0 .0) (omega (arith, small)) (omega (arith, small)))
 outcome-of s (accepted p) e k =
     let D : Demand3 s p = demand3 s p e in
     either-way (leb (length (p .activities)) k)
-    (λ h. outcome-back (outcomeCall s k) (refusal 11 0) (unfold outcomeCall outcomeOf in (rw (e, h))) (outcome-refusal 11 0 (omega arith) (omega arith) (omega arith)))
-    (λ h. let l = leb-false _ _ h in outcome-back _ _ (D .called k l) (answer-back p (accepted-formed s p e .0) _ _ (D .answers k) (D .right .right k l)))
+    (λ h. outcome-as (outcomeCall s k) (refusal 11 0) (unfold outcomeCall outcomeOf in (rw (e, h))) (refusal-outcome 11 0 (omega arith) (omega arith) (omega arith)))
+    (λ h. let l = leb-false _ _ h in outcome-as _ _ (D .called k l) (answer-outcome p (accepted-formed s p e .0) _ _ (D .answers k) (D .right .right k l)))
 
 module _ {A : Type 0} (most : ℕ) (small : most < 4294967296) (call : ℕ → Filled A) where
-  count-of : AnswersAs most call → (room : ℕ) → countIn (packed (call room .terms)) ≡ call room .terms
-  count-of (refuses k n h e) room = count-back _ (refusal k n) (ap (λ f. f .terms) (e room)) (count-refusal k n (h .0) (omega (arith, h .1)) (omega (arith, h .3)))
+  pub count-of : AnswersAs most call → (room : ℕ) → CountUnpacked (call room) (packed (call room .terms))
+  count-of (refuses k n h e) room = count-as _ (refusing k n) (e room) (refusal-count k n (h .0) (omega (arith, h .1)) (omega (arith, h .3)))
   count-of (fills xs h e) room =
       either-way (ltb room (length xs))
-      (λ l. count-back _ (refusal 10 0) (ap (λ f. f .terms) (e room ∙ too-long room xs (ltb-true _ _ l))) (count-refusal 10 0 (omega arith) (omega arith) (omega arith)))
-      (λ l. count-back _ (full (length xs ∷ [])) (ap (λ f. f .terms) (e room ∙ fitting room xs (ltb-false _ _ l))) (count-full _ (omega arith)))
+      (λ l. count-as _ (refusing 10 0) (e room ∙ too-long room xs (ltb-true _ _ l)) (refusal-count 10 0 (omega arith) (omega arith) (omega arith)))
+      (λ l. count-as _ _ (e room ∙ fitting room xs (ltb-false _ _ l)) (full-count xs (omega arith)))
 
   -- with room for as many elements as it can have, an answer is never refused with 10
   enough-room : AnswersAs most call → (room : ℕ) → most ≤ room → call room .terms .number ≢ 10
@@ -108,9 +156,9 @@ module _ {A : Type 0} (most : ℕ) (small : most < 4294967296) (call : ℕ → F
 pub unpacking : (s : List ℕ) → Unpacking s
 unpacking s =
     record {
-      outcome = λ k r e. ap outcomeIn e ∙ outcome-of s (reading s) refl k;
-      report = λ lent after r F. ap countIn (F .answer) ∙ count-of reportMost (omega arith) _ (report-as s) (length lent);
-      starts = λ k m lent after r F. ap countIn (F .answer) ∙ count-of runsMost (omega arith) _ (starts-as s k m) (length lent);
+      outcome = λ k r e. subst (OutcomeUnpacked (outcomeCall s k)) (sym e) (outcome-of s (reading s) refl k);
+      report = λ lent after r F. subst (CountUnpacked (reportCall s (length lent))) (sym (F .answer)) (count-of reportMost (omega arith) _ (report-as s) (length lent));
+      starts = λ k m lent after r F. subst (CountUnpacked (startsCall s k m (length lent))) (sym (F .answer)) (count-of runsMost (omega arith) _ (starts-as s k m) (length lent));
       reportRoom = enough-room reportMost (omega arith) _ (report-as s);
       startsRoom = λ k m. enough-room runsMost (omega arith) _ (starts-as s k m);
     }

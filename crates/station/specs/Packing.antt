@@ -17,24 +17,38 @@ packedValues (placed ∷ v ∷ _) = placed * 1099511627776 + v
 unfoldable pub packed : Terms → ℕ
 packed t = t .number * 4294967296 + t .line + packedValues (t .values)
 
--- ---- unpacking
+-- ---- unpacking, as include/planner.h does it
 unfoldable pub valueIn : ℕ → ℕ
 valueIn x = x % 4294967296
 
-unfoldable pub numberIn : ℕ → ℕ
-numberIn x = x / 4294967296 % 256
+-- planner_refusal
+unfoldable pub refusalIn : ℕ → ℕ
+refusalIn x = x / 4294967296 % 256
 
+-- planner_line
+unfoldable pub lineIn : ℕ → ℕ
+lineIn x = cond (eqb (refusalIn x) 0) 0 (valueIn x)
+
+-- planner_is_placed
 unfoldable pub placedIn : ℕ → ℕ
-placedIn x = x / 1099511627776
+placedIn x = x / 1099511627776 % 2
 
--- what the outcome call answers
-unfoldable pub outcomeIn : ℕ → Terms
-outcomeIn x = cond (eqb (numberIn x) 0) (full (placedIn x ∷ valueIn x ∷ [])) (refusal (numberIn x) (valueIn x))
+-- planner_start
+unfoldable pub startIn : ℕ → ℕ
+startIn x = cond (eqb (placedIn x) 1) (valueIn x) 0
 
--- what the report and starts calls answer
-unfoldable pub countIn : ℕ → Terms
-countIn x = cond (eqb (numberIn x) 0) (full (valueIn x ∷ [])) (refusal (numberIn x) (valueIn x))
+-- planner_conditions
+unfoldable pub conditionsIn : ℕ → ℕ
+conditionsIn x = cond (eqb (refusalIn x) 0) (cond (eqb (placedIn x) 0) (valueIn x) 0) 0
 
--- how many elements of the lent slice are written: none with a refusal
+-- planner_written: bytes of a report, or runs
 unfoldable pub writtenIn : ℕ → ℕ
-writtenIn x = cond (eqb (numberIn x) 0) (valueIn x) 0
+writtenIn x = cond (eqb (refusalIn x) 0) (valueIn x) 0
+
+-- the answer of the outcome call
+unfoldable pub outcomeIn : ℕ → Terms
+outcomeIn x = cond (eqb (refusalIn x) 0) (full (cond (eqb (placedIn x) 1) (1 ∷ startIn x ∷ []) (0 ∷ conditionsIn x ∷ []))) (refusal (refusalIn x) (lineIn x))
+
+-- the answer of the report and starts calls
+unfoldable pub countIn : ℕ → Terms
+countIn x = cond (eqb (refusalIn x) 0) (full (writtenIn x ∷ [])) (refusal (refusalIn x) (lineIn x))

@@ -6,14 +6,15 @@ ghost use Rattle.rules.specs.Calls.{startsCall};
 ghost use Rattle.station.specs.Columns.{ColumnsHeld, filled};
 use rules::Interval;
 
-// The room that a column has of the room asked for.
+// The smaller of `room` and the length of a column.
 fn within_columns(room: usize) -> usize
     ensures { λ r. ⌜ r ≡ min room 2048 ⌝ }
 {
     if room < 2048 { room } else { 2048 }
 }
 
-// The runs of starts for a slice of `room` records, the firsts and the lasts each in a column of numbers.
+// The starts call for a slice of `room` records: the first start of each run in a column, the last in another, and the
+// answer packed.
 pub fn columns(
     plan: &[u8],
     place: usize,

@@ -1,7 +1,4 @@
 // The calls for a station's own software, in C or Rust: each answers with one number (specs/Packing.antt).
-ghost use mathlib.Core.Path.{_≡_};
-ghost use Rattle.rules.specs.Calls.{outcomeCall};
-ghost use Rattle.station.specs.Packing.{packed};
 ghost use Rattle.station.specs.Exported.{OutcomeExported, ReportExported, StartsExported};
 use rules::Interval;
 
@@ -25,7 +22,7 @@ pub extern "C" fn planner_report(plan: &[u8], out: &mut [u8]) -> u64
 }
 
 // The runs of starts of the activity at a place that meet a set of conditions, written to the front of `out`; answers
-// their count.
+// their count. It is proved by hand, and so handles numbers and slices alone: the answer comes packed from `columns`.
 #[no_mangle]
 pub extern "C" fn planner_starts(plan: &[u8], place: usize, set: u32, out: &mut [Interval]) -> u64
     ensures { λ r. ⌜ StartsExported (now (plan .entry)) place set (now (out .entry)) r (now (out .exit)) ⌝ }

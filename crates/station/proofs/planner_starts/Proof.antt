@@ -46,8 +46,8 @@ use Rattle.rules.proofs.Interval as T
 use Rattle.station.specs.Packing.{writtenIn}
 use Rattle.station.specs.Exported.{StartsExported}
 use Rattle.station.specs.Columns.{ColumnsHeld, filled}
-use Rattle.station.proofs.Filling.{runs-fit, runs-exported}
-use Rattle.station.proofs.Scratch.{big-lit, numbersTy, Numbers, zero-vals, zeros, typed, cells-of, MutLent, lend-mut, mut-back, ShrLent, lend-shr, shr-back}
+use Rattle.station.proofs.StartsExported.{runs-fit, runs-exported}
+use Rattle.station.proofs.LocalArray.{big-lit, numbersTy, Numbers, zero-vals, zeros, typed, cells-of, MutLent, lend-mut, mut-back, ShrLent, lend-shr, shr-back}
 use Rattle.station.proofs.intervals.columns as columns
 use Rattle.station.proofs.intervals.columns.Symbol as columns-def
 use Rattle.station.proofs.intervals.columns.Symbol.{name as #columns}

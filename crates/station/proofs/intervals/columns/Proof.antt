@@ -4,7 +4,7 @@ use mathlib.Core.Path.{sym}
 use native.Mathlib.Omega.{arith}
 use borrow.Author.Needs.{needs}
 use lib.Seq.{length-take-le}
-use Rattle.station.proofs.Filling.{columns-held}
+use Rattle.station.proofs.StartsExported.{columns-held}
 use Rattle.station.proofs.intervals.columns.Statement.{statement}
 use Rattle.station.proofs.intervals.columns.Tie as tie
 

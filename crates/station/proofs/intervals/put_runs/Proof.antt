@@ -48,7 +48,7 @@ use denote.Triple.Walked.{says, needs, Stays, stay-slice, stay-dropped, walkOf, 
 use denote.Exit.{yes}
 use Rattle.rules.specs.declared.Interval.{Interval}
 use Rattle.station.specs.Columns.{filled}
-use Rattle.station.proofs.Filled.{length-filled, filled-one-more, place-fits}
+use Rattle.station.proofs.PutRuns.{length-filled, filled-one-more, place-fits}
 use Rattle.rules.proofs.Interval as T
 use Rattle.rules.proofs.Interval.Laws as T′
 use Rattle.station.proofs.intervals.put_runs.Key.{name as #put-runs}

@@ -4,16 +4,16 @@ use Prim.Native.Nat.{_/_, _%_}
 use mathlib.Core.Path.{_≡_, refl}
 use native.Mathlib.Omega.{arith}
 use borrow.Author.Tests.{eq-eqb, ne-eqb}
-use Rattle.station.specs.Packing.{valueIn, numberIn, writtenIn}
+use Rattle.station.specs.Packing.{valueIn, refusalIn, writtenIn}
 use Rattle.station.proofs.packing.written.Statement.{statement}
 use Rattle.station.proofs.packing.written.Tie as tie
 
 returns : tie.Need-returns
-unfolding writtenIn valueIn numberIn
+unfolding writtenIn valueIn refusalIn
 returns c = rw (ne-eqb _ _ (c .if1 .taken)) refl
 
 returns-2 : tie.Need-returns-2
-unfolding writtenIn valueIn numberIn
+unfolding writtenIn valueIn refusalIn
 returns-2 c = let none : c .before .args .answer / 4294967296 % 256 ≡ 0 = omega arith in rw (eq-eqb _ _ none) refl
 
 pub written-spec : {M : Type 1} → statement M

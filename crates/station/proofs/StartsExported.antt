@@ -2,51 +2,38 @@
 -- Assumes nothing.
 use Prim.Native.Nat.{ℕ, zero, suc, min, _<_, _≤_}
 use mathlib.Core.Path.{_≡_, refl, sym, _∙_, ap, subst}
-use mathlib.Core.Bool.{true, false}
 use mathlib.Core.List.{List, [], _∷_, _++_, map, append-assoc}
 use native.Mathlib.Omega.{arith}
 use lib.Dec.{ltb}
 use lib.ListN.{length, getD, set, take, drop, length-take, length-map}
 use lib.Seq.{length-take-le, take-suc, drop-cons, append-snoc, set-at, take-at}
-use borrow.Author.Tests.{ltb-true, ltb-false, eq-eqb, ne-eqb}
-use Rattle.rules.specs.Calls.{refusal, full, countTerms, Filled, sliceAfter, refusing, startsCall}
+use borrow.Author.Tests.{ltb-true, ltb-false}
+use Rattle.rules.specs.Calls.{countTerms, Filled, sliceAfter, startsCall}
 use Rattle.rules.specs.declared.Interval.{Interval}
 use Rattle.rules.specs.declared.CountAnswer.{CountAnswer}
+use Rattle.rules.proofs.Filling.{starts-call-right}
 use Rattle.rules.proofs.Says.{either-way}
 use Rattle.calls.specs.Called.{ColumnsFilled, StartsCalled}
 use Rattle.calls.proofs.Running.{too-long, fitting}
-use Rattle.station.specs.Packing.{packed, numberIn, valueIn, writtenIn}
+use Rattle.station.specs.Packing.{packed, writtenIn}
 use Rattle.station.specs.Exported.{StartsExported}
+use Rattle.station.specs.Unpacking.{runsMost}
 use Rattle.station.specs.Columns.{ColumnsHeld, filled}
 use Rattle.station.proofs.Sizes.{AnswersAs, refuses, fills, starts-as}
-use Rattle.station.proofs.Unpacking.{refusal-number, count-number, count-value}
+use Rattle.station.proofs.Unpacking.{count-of}
 
--- ---- as many elements are written as the answer says, and they fit
-record Written {A : Type 0} (most room : ℕ) (f : Filled A) : Type 0 where
-  count : writtenIn (packed (f .terms)) ≡ length (f .written)
-  within : length (f .written) ≤ room
-  few : length (f .written) ≤ most
-
-module _ {A : Type 0} (most : ℕ) (small : most < 4294967296) where
-  written-none : (room k n : ℕ) → (1 ≤ k) × (k ≤ 12) × (n ≤ 66) → Written {A = A} most room (refusing k n)
-  unfolding writtenIn
-  written-none room k n h = record { count = rw (refusal-number k n (omega arith) (omega arith), ne-eqb k 0 (λ e. omega arith)) refl; within = omega arith; few = omega arith }
-
-  written-all : (room : ℕ) (xs : List A) → length xs ≤ room → length xs ≤ most → Written most room (record { terms = full (length xs ∷ []); written = xs })
-  unfolding writtenIn
-  written-all room xs h l = record { count = rw (count-number (length xs) (omega arith), count-value (length xs) (omega arith)) refl; within = h; few = l }
-
-  written : (call : ℕ → Filled A) → AnswersAs most call → (room : ℕ) → Written most room (call room)
-  written call (refuses k n h e) room = rw (e room) (written-none room k n (h .0, h .1, h .3))
-  written call (fills xs h e) room =
+module _ {A : Type 0} (most : ℕ) (call : ℕ → Filled A) where
+  written-few : AnswersAs most call → (room : ℕ) → length (call room .written) ≤ most
+  written-few (refuses k n h e) room = rw (e room) (omega arith)
+  written-few (fills xs h e) room =
       either-way (ltb room (length xs))
-      (λ l. rw (e room, too-long room xs (ltb-true _ _ l)) (written-none room 10 0 (omega arith)))
-      (λ l. rw (e room, fitting room xs (ltb-false _ _ l)) (written-all room xs (ltb-false _ _ l) h))
+      (λ l. rw (e room, too-long room xs (ltb-true _ _ l)) (omega arith))
+      (λ l. rw (e room, fitting room xs (ltb-false _ _ l)) h)
 
   -- room beyond what an answer can have changes nothing
-  room-beyond : (call : ℕ → Filled A) → AnswersAs most call → (room : ℕ) → call (min room most) ≡ call room
-  room-beyond call (refuses k n h e) room = e _ ∙ sym (e room)
-  room-beyond call (fills xs h e) room =
+  room-beyond : AnswersAs most call → (room : ℕ) → call (min room most) ≡ call room
+  room-beyond (refuses k n h e) room = e _ ∙ sym (e room)
+  room-beyond (fills xs h e) room =
       either-way (ltb room (length xs))
       (λ l. let m = ltb-true _ _ l in e _ ∙ too-long _ xs (omega arith) ∙ sym (too-long room xs m) ∙ sym (e room))
       (λ l. let m = ltb-false _ _ l in e _ ∙ fitting _ xs (omega arith) ∙ sym (fitting room xs m) ∙ sym (e room))
@@ -99,11 +86,11 @@ columns-held s k m room held h lf ll firsts lasts ef el answer C r e =
     let A = starts-as s k m in
     let f = startsCall s k m room in
     let n : min (length (take held lf)) (length (take held ll)) ≡ min room 2048 = omega (arith, length-take held lf, length-take held ll) in
-    let same = ap (startsCall s k m) n ∙ room-beyond 2048 (omega arith) (startsCall s k m) A room in
+    let same = ap (startsCall s k m) n ∙ room-beyond runsMost (startsCall s k m) A room in
     let D = subst (λ (f : Filled Interval). ColumnsFilled f (take held lf) (take held ll) answer firsts lasts) same C in
     record {
       answer = e ∙ ap packed (D .answer);
-      few = written 2048 (omega arith) (startsCall s k m) A room .few;
+      few = written-few runsMost (startsCall s k m) A room;
       firstsHeld = column-held (λ run. run .first) (f .written) (take held lf) firsts (drop held lf) (D .firstsFilled);
       lastsHeld = column-held (λ run. run .last) (f .written) (take held ll) lasts (drop held ll) (D .lastsFilled);
     }
@@ -113,15 +100,13 @@ held-length : (part : Interval → ℕ) (us : List ℕ) (rs : List Interval) →
 held-length part us rs e = omega (arith, ap length e, length-take (length rs) us, length-map rs part)
 
 module _ (s : List ℕ) (k m : ℕ) (xs : List Interval) (r n : ℕ) (firsts lasts : List ℕ) (held : ColumnsHeld (startsCall s k m (length xs)) r firsts lasts) (e : n ≡ writtenIn r) where
-  now : Written 2048 (length xs) (startsCall s k m (length xs))
-  now = written 2048 (omega arith) (startsCall s k m) (starts-as s k m) (length xs)
-
-  count : n ≡ length (startsCall s k m (length xs) .written)
-  count = e ∙ ap writtenIn (held .answer) ∙ now .count
+  -- n is the number of runs written
+  is-written : n ≡ length (startsCall s k m (length xs) .written)
+  is-written = e ∙ ap writtenIn (held .answer) ∙ count-of runsMost (omega arith) (startsCall s k m) (starts-as s k m) (length xs) .written
 
   -- as many runs as are written fit in the slice and in the columns
   pub runs-fit : (n ≤ length xs) × (n ≤ 2048)
-  runs-fit = (omega (arith, count, now .within), omega (arith, count, now .few))
+  runs-fit = (omega (arith, is-written, starts-call-right s k m (length xs) .fits), omega (arith, is-written, held .few))
 
   -- put together they are what the call promises
   pub runs-exported : StartsExported s k m xs r (filled firsts lasts xs n)
@@ -132,5 +117,5 @@ module _ (s : List ℕ) (k m : ℕ) (xs : List Interval) (r n : ℕ) (firsts las
       let ll = held-length _ lasts (f .written) (held .lastsHeld) in
       record {
         answer = held .answer;
-        slice = rw count (filled-pairs firsts lasts xs (length (f .written)) (omega arith) (omega arith) (now .within) ∙ rw (held .firstsHeld, held .lastsHeld, pairs-back (f .written)) refl);
+        slice = rw is-written (filled-pairs firsts lasts xs (length (f .written)) (omega arith) (omega arith) (starts-call-right s k m (length xs) .fits) ∙ rw (held .firstsHeld, held .lastsHeld, pairs-back (f .written)) refl);
       }
