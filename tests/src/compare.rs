@@ -1,6 +1,8 @@
 // Another planner against the scheduler: the program is run with a plan on its standard input.
 
+use crate::generator::Generated;
 use std::io::{Read, Write};
+use std::path::Path;
 use std::process::{Command, ExitStatus, Stdio};
 use std::sync::mpsc::{channel, Receiver};
 use std::thread;
@@ -88,4 +90,12 @@ pub fn difference(one: (&str, &[u8]), other: (&str, &[u8])) -> String {
     let at = (0..first.len().max(second.len())).find(|&i| first.get(i) != second.get(i)).unwrap_or(0);
     let said = |lines: &[String]| lines.get(at).map_or("nothing".to_string(), |line| format!("{line:?}"));
     format!("line {}: {} {}, {} {}", at + 1, one.0, said(&first), other.0, said(&second))
+}
+
+// Saves a file that shows a difference.
+pub fn found(file: &Generated, folder: &Path, said: String) -> Result<(), String> {
+    let name: String = file.name.chars().map(|c| if c.is_ascii_alphanumeric() { c } else { '-' }).collect();
+    let path = folder.join(name + ".plan");
+    std::fs::write(&path, &file.bytes).map_err(|error| error.to_string())?;
+    Err(format!("{} ({}): {said}\nplan saved in {}", file.name, file.kind, path.display()))
 }

@@ -14,7 +14,7 @@ mod extremes;
 pub mod full;
 pub mod generator;
 mod knots;
-mod random;
+pub mod random;
 
 // Checks.
 pub mod cases;

@@ -2,7 +2,7 @@
 
 use differential::calls::output;
 use differential::check::check;
-use differential::compare::{difference, run};
+use differential::compare::{difference, found, run};
 use differential::corpus;
 use differential::full::{full, KINDS};
 use differential::generator::{fixed, generate, Generated};
@@ -69,14 +69,6 @@ fn input() -> Vec<u8> {
 
 fn print(bytes: Result<Vec<u8>, String>) -> Result<(), String> {
     std::io::stdout().write_all(&bytes?).map_err(|error| error.to_string())
-}
-
-// Saves a file that shows a difference.
-fn found(file: &Generated, folder: &Path, said: String) -> Result<(), String> {
-    let name: String = file.name.chars().map(|c| if c.is_ascii_alphanumeric() { c } else { '-' }).collect();
-    let path = folder.join(name + ".plan");
-    std::fs::write(&path, &file.bytes).map_err(|error| error.to_string())?;
-    Err(format!("{} ({}): {said}\nplan saved in {}", file.name, file.kind, path.display()))
 }
 
 // Seeds of which everything in the tally must have turned up.
