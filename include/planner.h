@@ -1,8 +1,8 @@
 /* The calls of the seabed station planner (document 01), for C99 and C++. Link with libstation.a.
  *
  * A plan is the bytes of a plan file as they are, with no NUL behind them. An activity is named by its place, its
- * position in the scheduling order, from 0. Each call reads the plan, does its whole work and gives its answer as one
- * number, which the functions below take apart:
+ * position in the scheduling order, from 0. A start is a tick, a minute counted from the plan's beginning. Each call
+ * reads the plan, does its whole work and gives its answer as one number, which the functions below take apart:
  *
  *     bits 0 to 31   what was asked for: a start, a set of conditions, a length or a count; of a refusal, its line
  *     bits 32 to 39  the number of the refusal; 0 where the call is answered
@@ -18,8 +18,13 @@
  * overlap; until the call returns, nobody else may write the plan, or read or write the slice. Neither may have more
  * than PTRDIFF_MAX bytes. No pointer is kept.
  *
- * The calls use no heap, keep nothing from one call to the next, and may run in several threads at once. A call takes
- * up to 400 KB of stack: give the task that calls as much. The library itself needs memcpy and memset, and no more. */
+ * The calls use no heap, keep nothing from one call to the next, and may run in several threads at once. Give the task
+ * that calls PLANNER_STACK_MOST bytes of stack and its own need: the frames are fixed and no function calls itself, so
+ * the plan makes no difference. These are measured and looked up, not proved: docs/INTEGRATION.md says what is proved
+ * and what is trusted.
+ *
+ * Bare x86-64 firmware must provide the System V AMD64 convention with its red zone (so interrupts need a stack of
+ * their own), SSE2 switched on, its registers saved when tasks switch, and memcpy and memset. No more is needed. */
 #ifndef PLANNER_H
 #define PLANNER_H
 
@@ -32,8 +37,9 @@ extern "C" {
 
 #define PLANNER_PLAN_MOST 60000    /* the most bytes of a plan; a longer one is refused */
 #define PLANNER_ACTIVITIES_MOST 64 /* the most activities of a plan */
-#define PLANNER_REPORT_MOST 1568   /* the most bytes that planner_report writes */
-#define PLANNER_RUNS_MOST 2048     /* the most records that planner_starts writes */
+#define PLANNER_REPORT_MOST 1568   /* bytes: room enough for every report */
+#define PLANNER_RUNS_MOST 2048     /* records: room enough for every list of runs */
+#define PLANNER_STACK_MOST 420000  /* bytes of stack that are enough for every call */
 
 /* A run of starts, both bounds included. */
 struct planner_interval {
@@ -42,10 +48,10 @@ struct planner_interval {
 };
 
 /* Why a call is refused, by document 01's numbers; only the first in its order of checks is given. With 1 to 9 the plan
- * itself is refused, by every call alike; 10 to 12 are of the call. Lines are counted from 1. */
+ * itself is refused, by every call alike; 10 to 12 are of the call. Lines count from 1; 1 and 9 to 12 have line 0. */
 enum planner_refusal_number {
     PLANNER_REFUSAL_NONE = 0,                /* no refusal */
-    PLANNER_REFUSAL_PLAN_TOO_LONG = 1,       /* over 60,000 bytes; line 0 */
+    PLANNER_REFUSAL_PLAN_TOO_LONG = 1,       /* over 60,000 bytes */
     PLANNER_REFUSAL_LINE_WRONG = 2,          /* first word or field count wrong, or no LF */
     PLANNER_REFUSAL_MALFORMED = 3,           /* malformed number or item, or an empty field */
     PLANNER_REFUSAL_OUT_OF_RANGE = 4,        /* number out of range */
@@ -53,27 +59,29 @@ enum planner_refusal_number {
     PLANNER_REFUSAL_ID_REPEATED = 6,         /* id of an earlier line */
     PLANNER_REFUSAL_AFTER_NOT_EARLIER = 7,   /* `after` names no activity at an earlier place */
     PLANNER_REFUSAL_LIST_WRONG = 8,          /* list not rising, a > b, or too many items */
-    PLANNER_REFUSAL_HANDOVER_UNMET = 9,      /* charge at T with nothing placed is under the handover charge; line 0 */
-    PLANNER_REFUSAL_SLICE_TOO_SHORT = 10,    /* lent slice too short for the answer; line 0 */
-    PLANNER_REFUSAL_NO_SUCH_PLACE = 11,      /* place not below the activity count; line 0 */
-    PLANNER_REFUSAL_SET_TOO_LARGE = 12       /* set over 511; line 0 */
+    PLANNER_REFUSAL_HANDOVER_UNMET = 9,      /* charge at horizon T with nothing placed is under the handover charge */
+    PLANNER_REFUSAL_SLICE_TOO_SHORT = 10,    /* lent slice too short for the answer */
+    PLANNER_REFUSAL_NO_SUCH_PLACE = 11,      /* place not below the activity count */
+    PLANNER_REFUSAL_SET_TOO_LARGE = 12       /* set over 511 */
 };
 
-/* The nine conditions that a start must meet. A set of them is their sum. */
+/* The nine conditions that a start of an activity must meet beside those placed at earlier places. A set of them is
+ * their sum. */
 enum planner_condition {
-    PLANNER_CONDITION_W = 1,     /* the start is in a window */
-    PLANNER_CONDITION_D = 2,     /* all that it comes after is placed and has ended */
-    PLANNER_CONDITION_U = 4,     /* its units are free */
-    PLANNER_CONDITION_S = 8,     /* every need is met, its own and those of the activities placed */
-    PLANNER_CONDITION_E = 16,    /* the engines stay within their limit */
-    PLANNER_CONDITION_P = 32,    /* the peaks stay within their limit */
-    PLANNER_CONDITION_B = 64,    /* the charge stays at the floor or above it, and reaches the handover charge */
-    PLANNER_CONDITION_V = 128,   /* the volumes stay within their limit */
-    PLANNER_CONDITION_H = 256,   /* it can be warmed up within the plan */
+    PLANNER_CONDITION_W = 1,   /* the start is in a window, or the activity has none */
+    PLANNER_CONDITION_D = 2,   /* each activity that it comes after is placed and has ended by the start */
+    PLANNER_CONDITION_U = 4,   /* no placed activity that shares a unit holds a tick that it holds */
+    PLANNER_CONDITION_S = 8,   /* every need, its own and those of the placed, is met in each tick of the needing one */
+    PLANNER_CONDITION_E = 16,  /* in each tick the engines of those holding it sum to at most the limit */
+    PLANNER_CONDITION_P = 32,  /* in each tick the peaks of those holding it sum to at most the limit */
+    PLANNER_CONDITION_B = 64,  /* the charge is never under the floor, nor at the horizon under the handover charge */
+    PLANNER_CONDITION_V = 128, /* the volumes, its own and those of the placed, sum to at most the limit */
+    PLANNER_CONDITION_H = 256, /* its warm-up, if it has one, begins at tick 0 or later */
     PLANNER_CONDITIONS_ALL = 511
 };
 
-/* How the activity at a place is answered: placed at a start, or refused with the conditions that stand in its way.
+/* How the activity at a place is answered: placed at a start, or refused with conditions that have no start in common;
+ * without any one of them the others have.
  *
  *   plan, plan_length  the plan
  *   place              the place
@@ -92,8 +100,8 @@ uint64_t planner_outcome(const uint8_t *plan, size_t plan_length, size_t place);
 uint64_t planner_report(const uint8_t *plan, size_t plan_length, uint8_t *out, size_t out_length);
 
 /* The starts of the activity at a place that meet every condition of a set, beside the activities placed at earlier
- * places: the longest unbroken runs of them, rising. Set 0 gives every start, 0 to T - d; PLANNER_CONDITIONS_ALL gives
- * the valid ones.
+ * places: the longest unbroken runs of them, rising. Set 0 gives every start, 0 to horizon - duration;
+ * PLANNER_CONDITIONS_ALL gives the valid ones.
  *
  *   plan, plan_length  the plan
  *   place              the place
@@ -157,7 +165,7 @@ static inline const char *planner_refusal_text(uint32_t number)
     case PLANNER_REFUSAL_ID_REPEATED: return "id of an earlier line";
     case PLANNER_REFUSAL_AFTER_NOT_EARLIER: return "`after` names no activity at an earlier place";
     case PLANNER_REFUSAL_LIST_WRONG: return "list not rising, a > b, or too many items";
-    case PLANNER_REFUSAL_HANDOVER_UNMET: return "charge at T with nothing placed is under the handover charge";
+    case PLANNER_REFUSAL_HANDOVER_UNMET: return "charge at horizon T with nothing placed is under the handover charge";
     case PLANNER_REFUSAL_SLICE_TOO_SHORT: return "lent slice too short for the answer";
     case PLANNER_REFUSAL_NO_SUCH_PLACE: return "place not below the activity count";
     case PLANNER_REFUSAL_SET_TOO_LARGE: return "set over 511";

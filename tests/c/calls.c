@@ -1,4 +1,5 @@
-/* Holds the library to document 01 through planner.h: the worked plan, every refusal, the edges, the lent slices.
+/* Holds the library to document 01 through planner.h: the worked plan, every refusal and condition, the edges, the
+ * greatest numbers, the lent slices.
  *
  *   calls PLAN
  *
@@ -9,23 +10,41 @@
 
 #include "planner.h"
 
+#define ROOM 5000 /* the most bytes or records lent, more than any answer takes */
 #define GUARD 64  /* guard bytes or records before and behind each slice */
 #define FILL 0xa5 /* what they hold, and the slices before a call */
 
 /* The first line of the worked plan and its second, with some fields to be put in. */
 #define P_WITH(horizon, handover) "plan\t" horizon "\t840\t100\t20\t40\t1\t" handover "\t1\t10\t50\t1\n"
 #define A_WITH(id, windows, after) "act\t" id "\t1\t5\t10\t" windows "\t" after "\t0\t-\t1=3\t1\t4\t3\t10\t1\n"
+#define ONE_TICK(id, preferred) "act\t" id "\t0\t1\t" preferred "\t-\t-\t0\t-\t-\t0\t0\t0\t0\t0\n"
 #define P P_WITH("20", "0")
 #define A A_WITH("7", "-", "-")
 
 static const char worked_report[] =
     "7\tplaced\t10\t15\n8\trefused\tWD\n9\trefused\tV\n10\tplaced\t15\t17\nend\t2\t2\t37\t50\n";
 
+/* Document 01's words for the refusals, with "charge at horizon T" for c(T). */
+static const char *const refusal_texts[] = {
+    "over 60,000 bytes",
+    "first word or field count wrong, or no LF",
+    "malformed number or item, or an empty field",
+    "number out of range",
+    "65th activity line",
+    "id of an earlier line",
+    "`after` names no activity at an earlier place",
+    "list not rising, a > b, or too many items",
+    "charge at horizon T with nothing placed is under the handover charge",
+    "lent slice too short for the answer",
+    "place not below the activity count",
+    "set over 511",
+};
+
 /* The plan, the plan as it was before a call, and the slices lent. */
 static uint8_t plan_room[GUARD + PLANNER_PLAN_MOST + 1 + GUARD];
 static uint8_t plan_before[sizeof plan_room];
-static uint8_t out_room[GUARD + PLANNER_REPORT_MOST + GUARD];
-static struct planner_interval runs_room[GUARD + PLANNER_RUNS_MOST + GUARD];
+static uint8_t out_room[GUARD + ROOM + GUARD];
+static struct planner_interval runs_room[GUARD + ROOM + GUARD];
 
 static uint8_t *const plan = plan_room + GUARD;
 static size_t plan_length;
@@ -188,18 +207,23 @@ static void refusals_of_the_plan(void)
     CHECK(is_no(outcome(PLANNER_ACTIVITIES_MOST), PLANNER_REFUSAL_NO_SUCH_PLACE, 0));
 }
 
-/* The table of refusals, 10 to 12, on the worked plan: 11 first, then 12, then 10. */
+/* The table of refusals, 10 to 12, on the worked plan: 11 first, then 12, then 10. No bit of a place or set is lost. */
 static void refusals_of_the_call(void)
 {
+    static const size_t places[] = {4, (size_t)1 << 32, SIZE_MAX};
+    static const uint32_t sets[] = {512, 65536, 65536 + 511, UINT32_MAX};
+
     CHECK(is_no(report(0), PLANNER_REFUSAL_SLICE_TOO_SHORT, 0));
     CHECK(is_no(starts(0, PLANNER_CONDITIONS_ALL, 0), PLANNER_REFUSAL_SLICE_TOO_SHORT, 0));
-    CHECK(is_no(outcome(4), PLANNER_REFUSAL_NO_SUCH_PLACE, 0));
-    CHECK(is_no(outcome(SIZE_MAX), PLANNER_REFUSAL_NO_SUCH_PLACE, 0));
-    CHECK(is_no(starts(4, 0, PLANNER_RUNS_MOST), PLANNER_REFUSAL_NO_SUCH_PLACE, 0));
-    CHECK(is_no(starts(4, 512, 0), PLANNER_REFUSAL_NO_SUCH_PLACE, 0));
-    CHECK(is_no(starts(3, 512, PLANNER_RUNS_MOST), PLANNER_REFUSAL_SET_TOO_LARGE, 0));
-    CHECK(is_no(starts(3, UINT32_MAX, PLANNER_RUNS_MOST), PLANNER_REFUSAL_SET_TOO_LARGE, 0));
-    CHECK(is_no(starts(3, 512, 0), PLANNER_REFUSAL_SET_TOO_LARGE, 0));
+    for (int i = 0; i < 3; i++) {
+        CHECK(is_no(outcome(places[i]), PLANNER_REFUSAL_NO_SUCH_PLACE, 0));
+        CHECK(is_no(starts(places[i], 0, PLANNER_RUNS_MOST), PLANNER_REFUSAL_NO_SUCH_PLACE, 0));
+        CHECK(is_no(starts(places[i], 512, 0), PLANNER_REFUSAL_NO_SUCH_PLACE, 0));
+    }
+    for (int i = 0; i < 4; i++) {
+        CHECK(is_no(starts(3, sets[i], PLANNER_RUNS_MOST), PLANNER_REFUSAL_SET_TOO_LARGE, 0));
+        CHECK(is_no(starts(3, sets[i], 0), PLANNER_REFUSAL_SET_TOO_LARGE, 0));
+    }
 }
 
 /* With a count of 0 a pointer may be NULL: on the worked plan, and as the plan. */
@@ -225,6 +249,7 @@ static void answers(void)
             CHECK(is_no(report(room), PLANNER_REFUSAL_SLICE_TOO_SHORT, 0));
         else
             CHECK(is_report(worked_report, room));
+    CHECK(is_report(worked_report, ROOM));
     CHECK(is_run(0, 0, 0, 15));
     CHECK(is_run(1, 0, 0, 17));
     CHECK(is_run(2, 0, 0, 18));
@@ -233,14 +258,48 @@ static void answers(void)
     CHECK(starts(2, PLANNER_CONDITION_V, PLANNER_RUNS_MOST) == 0);
 }
 
-/* Two runs, and a slice with room for one. */
-static void two_runs(void)
+/* Starts up to the last tick of the longest plan, and five runs: those of the last activity, whose unit four others of
+ * one tick have. */
+static void five_runs(void)
 {
-    static const char two_windows[] = P A_WITH("7", "0:3,9:11", "-");
-    set_plan(two_windows, strlen(two_windows));
-    CHECK(is_no(starts(0, PLANNER_CONDITION_W, 1), PLANNER_REFUSAL_SLICE_TOO_SHORT, 0));
-    CHECK(starts(0, PLANNER_CONDITION_W, 2) == 2);
-    CHECK(runs[0].first == 0 && runs[0].last == 3 && runs[1].first == 9 && runs[1].last == 11);
+    static const char five_activities[] = P_WITH("4096", "0") ONE_TICK("1", "1000") ONE_TICK("2", "2000")
+        ONE_TICK("3", "3000") ONE_TICK("4", "4000") ONE_TICK("5", "4095");
+    static const struct planner_interval five[] = {{0, 999}, {1001, 1999}, {2001, 2999}, {3001, 3999}, {4001, 4095}};
+    static const size_t rooms[] = {5, PLANNER_RUNS_MOST, PLANNER_RUNS_MOST + 1, ROOM};
+
+    set_plan(five_activities, strlen(five_activities));
+    CHECK(is_placed(outcome(3), 4000));
+    CHECK(is_placed(outcome(4), 4095));
+    CHECK(is_run(4, 0, 0, 4095));
+    CHECK(is_no(starts(4, PLANNER_CONDITION_U, 4), PLANNER_REFUSAL_SLICE_TOO_SHORT, 0));
+    for (int i = 0; i < 4; i++)
+        CHECK(starts(4, PLANNER_CONDITION_U, rooms[i]) == 5 && memcmp(runs, five, sizeof five) == 0);
+}
+
+/* Behind one that has unit 0 in every tick, nine activities that are refused with one condition each, W to H: no start
+ * meets that one, and every start the eight others. */
+static void conditions_apart(void)
+{
+    static const char nine_refused[] = P
+        "act\t0\t0\t20\t0\t-\t-\t0\t-\t-\t0\t0\t0\t0\t0\n"
+        "act\t1\t1\t1\t0\t20:20\t-\t-\t-\t-\t0\t0\t0\t0\t0\n"
+        "act\t2\t1\t1\t0\t-\t1\t-\t-\t-\t0\t0\t0\t0\t0\n"
+        "act\t3\t1\t1\t0\t-\t-\t0\t-\t-\t0\t0\t0\t0\t0\n"
+        "act\t4\t1\t1\t0\t-\t-\t-\t1=3\t-\t0\t0\t0\t0\t0\n"
+        "act\t5\t1\t1\t0\t-\t-\t-\t-\t-\t2\t0\t0\t0\t0\n"
+        "act\t6\t1\t1\t0\t-\t-\t-\t-\t-\t0\t11\t0\t0\t0\n"
+        "act\t7\t1\t1\t0\t-\t-\t-\t-\t-\t0\t0\t99\t0\t0\n"
+        "act\t8\t1\t1\t0\t-\t-\t-\t-\t-\t0\t0\t0\t51\t0\n"
+        "act\t9\t1\t17\t0\t-\t-\t-\t-\t-\t0\t0\t0\t0\t1\n";
+
+    set_plan(nine_refused, strlen(nine_refused));
+    CHECK(is_placed(outcome(0), 0));
+    for (size_t place = 1; place <= 9; place++) {
+        uint32_t one = (uint32_t)1 << (place - 1);
+        CHECK(is_refused(outcome(place), one));
+        CHECK(starts(place, one, PLANNER_RUNS_MOST) == 0);
+        CHECK(is_run(place, PLANNER_CONDITIONS_ALL - one, 0, place == 9 ? 3 : 19));
+    }
 }
 
 /* Whether w is the warm-up of entry q: starts w - 1 and w fall into q, and w is the first to meet H. */
@@ -287,14 +346,26 @@ static void edges(void)
 /* The header's texts, letters and record. */
 static void header(void)
 {
-    for (uint32_t number = 1; number <= 13; number++)
-        for (uint32_t other = 0; other < number; other++)
-            CHECK(strcmp(planner_refusal_text(number), planner_refusal_text(other)) != 0);
-    CHECK(strcmp(planner_refusal_text(13), planner_refusal_text(UINT32_MAX)) == 0);
+    for (uint32_t number = 1; number <= 12; number++)
+        CHECK(strcmp(planner_refusal_text(number), refusal_texts[number - 1]) == 0);
+    CHECK(strcmp(planner_refusal_text(0), "no refusal") == 0);
+    CHECK(strcmp(planner_refusal_text(13), "unknown refusal") == 0);
+    CHECK(strcmp(planner_refusal_text(257), "unknown refusal") == 0);
+    CHECK(strcmp(planner_refusal_text(UINT32_MAX), "unknown refusal") == 0);
     for (int c = 0; c < 9; c++)
         CHECK(planner_letter((uint32_t)1 << c) == "WDUSEPBVH"[c]);
     CHECK(planner_letter(0) == '?' && planner_letter(3) == '?' && planner_letter(512) == '?');
     CHECK(sizeof(struct planner_interval) == 8 && offsetof(struct planner_interval, last) == 4);
+}
+
+/* The header's functions on made-up answers: each part at its least and at its greatest. */
+static void parts(void)
+{
+    const uint64_t refusal = (uint64_t)255 << 32, placed = (uint64_t)1 << 40;
+    CHECK(is_no(refusal, 255, 0) && is_no(refusal + UINT32_MAX, 255, UINT32_MAX));
+    CHECK(is_placed(placed, 0) && is_placed(placed + UINT32_MAX, UINT32_MAX));
+    CHECK(is_refused(0, 0) && is_refused(UINT32_MAX, UINT32_MAX));
+    CHECK(planner_written(0) == 0 && planner_written(UINT32_MAX) == UINT32_MAX);
 }
 
 /* Reads the worked plan, which begins with P and A; gives the length. */
@@ -320,8 +391,10 @@ int main(int count, char **words)
     }
     size_t length = read_worked(words[1], worked, sizeof worked);
     header();
+    parts();
     refusals_of_the_plan();
-    two_runs();
+    five_runs();
+    conditions_apart();
     set_plan(worked, length);
     answers();
     refusals_of_the_call();

@@ -3,7 +3,7 @@
 use std::fmt::{Display, Formatter, Result, Write};
 use std::ops::BitOr;
 
-/// A condition that a start must meet.
+/// A condition that a start of an activity must meet beside those placed at earlier places.
 ///
 /// ```
 /// use bovkact_planner::Condition;
@@ -14,23 +14,23 @@ use std::ops::BitOr;
 #[derive(Clone, Copy, Debug, PartialEq, Eq, Hash)]
 #[repr(u32)]
 pub enum Condition {
-    /// The start is in a window.
+    /// The start is in a window, or the activity has none.
     W = 1,
-    /// All that the activity comes after is placed and has ended.
+    /// Each activity that it comes after is placed and has ended by the start.
     D = 2,
-    /// Its units are free.
+    /// No placed activity that shares a unit holds a tick that it holds.
     U = 4,
-    /// Every need is met, its own and those of the activities placed.
+    /// Every need, its own and those of the placed, is met in each tick of the needing one.
     S = 8,
-    /// The engines stay within their limit.
+    /// In each tick the engines of those holding it sum to at most the limit.
     E = 16,
-    /// The peaks stay within their limit.
+    /// In each tick the peaks of those holding it sum to at most the limit.
     P = 32,
-    /// The charge stays at the floor or above it, and reaches the handover charge.
+    /// The charge is never under the floor, nor at the horizon under the handover charge.
     B = 64,
-    /// The volumes stay within their limit.
+    /// The volumes, its own and those of the placed, sum to at most the limit.
     V = 128,
-    /// The activity can be warmed up within the plan.
+    /// Its warm-up, if it has one, begins at tick 0 or later.
     H = 256,
 }
 
@@ -75,14 +75,14 @@ impl Display for Condition {
     }
 }
 
-/// A set of conditions: their numbers, added.
+/// A set of conditions: their numbers, added. Written with `|`, or made from one condition.
 ///
 /// Any number can stand for a set; [`starts`](crate::starts) refuses those over 511.
 ///
 /// ```
 /// use bovkact_planner::{Condition, Conditions};
 ///
-/// let set = Conditions::D | Conditions::W;
+/// let set = Condition::D | Condition::W;
 /// assert_eq!(set.bits(), 3);
 /// assert_eq!(set.to_string(), "WD");
 /// assert!(set.contains(Condition::W) && !set.contains(Condition::B));
@@ -97,24 +97,6 @@ impl Conditions {
     pub const NONE: Conditions = Conditions(0);
     /// All nine: the starts that meet it are the valid ones.
     pub const ALL: Conditions = Conditions(511);
-    /// [`Condition::W`] alone.
-    pub const W: Conditions = Conditions(Condition::W.bit());
-    /// [`Condition::D`] alone.
-    pub const D: Conditions = Conditions(Condition::D.bit());
-    /// [`Condition::U`] alone.
-    pub const U: Conditions = Conditions(Condition::U.bit());
-    /// [`Condition::S`] alone.
-    pub const S: Conditions = Conditions(Condition::S.bit());
-    /// [`Condition::E`] alone.
-    pub const E: Conditions = Conditions(Condition::E.bit());
-    /// [`Condition::P`] alone.
-    pub const P: Conditions = Conditions(Condition::P.bit());
-    /// [`Condition::B`] alone.
-    pub const B: Conditions = Conditions(Condition::B.bit());
-    /// [`Condition::V`] alone.
-    pub const V: Conditions = Conditions(Condition::V.bit());
-    /// [`Condition::H`] alone.
-    pub const H: Conditions = Conditions(Condition::H.bit());
 
     /// The set that a number stands for.
     pub const fn from_bits(bits: u32) -> Conditions {
@@ -131,11 +113,6 @@ impl Conditions {
         self.0 & condition.bit() != 0
     }
 
-    /// The conditions that are in this set, in the other or in both; also written `|`.
-    pub const fn union(self, other: Conditions) -> Conditions {
-        Conditions(self.0 | other.0)
-    }
-
     /// Its conditions in the document's order.
     pub fn iter(self) -> impl Iterator<Item = Condition> {
         Condition::ALL.into_iter().filter(move |&condition| self.contains(condition))
@@ -148,11 +125,19 @@ impl From<Condition> for Conditions {
     }
 }
 
-impl BitOr for Conditions {
+impl<C: Into<Conditions>> BitOr<C> for Condition {
     type Output = Conditions;
 
-    fn bitor(self, other: Conditions) -> Conditions {
-        self.union(other)
+    fn bitor(self, other: C) -> Conditions {
+        Conditions::from(self) | other
+    }
+}
+
+impl<C: Into<Conditions>> BitOr<C> for Conditions {
+    type Output = Conditions;
+
+    fn bitor(self, other: C) -> Conditions {
+        Conditions(self.0 | other.into().0)
     }
 }
 

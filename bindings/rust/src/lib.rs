@@ -1,7 +1,7 @@
 //! The planner of the seabed stations, proved in Rattle, as safe Rust.
 //!
 //! The calls are those of document 01, over a plan file's bytes. An activity is named by its place, its position in the
-//! scheduling order, from 0.
+//! scheduling order, from 0. A start is a tick, a minute counted from the plan's beginning.
 //!
 //! ```
 //! use bovkact_planner::{outcome, report, starts, Conditions, Outcome, REPORT_MOST};
@@ -20,8 +20,8 @@
 //! Every plan is allowed, whatever its bytes and its length, and so are every place, set and slice: each draws an
 //! answer or one [`Refusal`], and each call ends. A call that is refused writes nothing; what stands behind an answer
 //! in a lent slice remains as it was. The calls use no heap, but for the list that [`starts`] gives, keep nothing from
-//! one call to the next and may run in several threads at once. A call takes up to 400 KB of stack, [`starts`] 16 KB
-//! more; a thread of Rust has 2 MB unless it is told otherwise.
+//! one call to the next and may run in several threads at once. [`STACK_MOST`] says what stack they take; a thread of
+//! Rust has 2 MB unless it is told otherwise.
 //!
 //! # Why it is safe
 //!
@@ -37,9 +37,9 @@
 //! - A call never unwinds. In a thread whose stack is too small it ends the process, as any function of Rust does: the
 //!   library's code touches each page of its stack in turn and so meets the guard page.
 //!
-//! No memory is trusted to an answer: the front of a slice is taken by an index that Rust checks. An answer that the
-//! interface doesn't know (another number of a refusal, a length beyond the slice) panics. It can't come from the
-//! proved library, only from another one linked in its place.
+//! No memory is trusted to an answer: the front of a slice is taken by an index that Rust checks. A refusal's number
+//! over 12, or a length beyond the slice, panics. Neither can come from the proved library, only from another one
+//! linked in its place.
 
 #![deny(missing_docs)]
 #![deny(unsafe_op_in_unsafe_fn)]
@@ -52,17 +52,19 @@ pub use refusal::{Reason, Refusal};
 
 use std::ops::RangeInclusive;
 
-#[cfg(not(all(target_arch = "x86_64", unix)))]
-compile_error!("libstation.a is for x86-64 and the calling convention of Unix");
+#[cfg(not(all(target_arch = "x86_64", target_os = "linux")))]
+compile_error!("libstation.a is for x86-64 Linux");
 
 /// The most bytes of a plan; a longer one is refused.
 pub const PLAN_MOST: usize = 60_000;
 /// The most activities of a plan.
 pub const ACTIVITIES_MOST: usize = 64;
-/// Bytes in which every report has room.
+/// Bytes: room enough for every report.
 pub const REPORT_MOST: usize = 1_568;
-/// Records in which every answer of [`starts_into`] has room.
+/// Records: room enough for every list of runs.
 pub const RUNS_MOST: usize = 2_048;
+/// Bytes of stack that are enough for every call, whatever the plan; [`starts`] takes 16,384 more for its own list.
+pub const STACK_MOST: usize = 420_000;
 
 /// How an activity is answered.
 ///
@@ -144,26 +146,35 @@ fn value(answer: u64) -> Result<u32, Refusal> {
     }
 }
 
-/// How the activity at a place is answered.
-///
-/// ```
-/// use bovkact_planner::{outcome, Conditions, Outcome, Reason};
-///
-/// let plan = include_bytes!("../../../examples/worked.plan");
-/// assert_eq!(outcome(plan, 0)?, Outcome::Placed { start: 10 });
-/// assert_eq!(outcome(plan, 1)?, Outcome::Refused { conditions: Conditions::W | Conditions::D });
-/// assert_eq!(outcome(plan, 4).unwrap_err().reason, Reason::NoSuchPlace);
-/// # Ok::<(), bovkact_planner::Refusal>(())
-/// ```
-pub fn outcome(plan: &[u8], place: usize) -> Result<Outcome, Refusal> {
-    // SAFETY: the plan is a slice lent for the call, which only reads it.
-    let answer = unsafe { planner_outcome(plan.as_ptr(), plan.len(), place) };
+// What an answer of planner_outcome says.
+fn outcome_of(answer: u64) -> Result<Outcome, Refusal> {
     let value = value(answer)?;
     if answer >> 40 & 1 == 1 {
         Ok(Outcome::Placed { start: value })
     } else {
         Ok(Outcome::Refused { conditions: Conditions::from_bits(value) })
     }
+}
+
+// What an answer of the other two says: how much of the slice is written.
+fn front<T>(out: &[T], answer: u64) -> Result<&[T], Refusal> {
+    Ok(&out[..value(answer)? as usize])
+}
+
+/// How the activity at a place is answered.
+///
+/// ```
+/// use bovkact_planner::{outcome, Condition, Outcome, Reason};
+///
+/// let plan = include_bytes!("../../../examples/worked.plan");
+/// assert_eq!(outcome(plan, 0)?, Outcome::Placed { start: 10 });
+/// assert_eq!(outcome(plan, 1)?, Outcome::Refused { conditions: Condition::W | Condition::D });
+/// assert_eq!(outcome(plan, 4).unwrap_err().reason, Reason::NoSuchPlace);
+/// # Ok::<(), bovkact_planner::Refusal>(())
+/// ```
+pub fn outcome(plan: &[u8], place: usize) -> Result<Outcome, Refusal> {
+    // SAFETY: the plan is a slice lent for the call, which only reads it.
+    outcome_of(unsafe { planner_outcome(plan.as_ptr(), plan.len(), place) })
 }
 
 /// The report of a plan, written to the front of `out` and borrowed from it; [`REPORT_MOST`] bytes are always enough.
@@ -184,23 +195,23 @@ pub fn report<'a>(plan: &[u8], out: &'a mut [u8]) -> Result<&'a [u8], Refusal> {
     // SAFETY: the plan is a slice lent for the call, which only reads it; `out` is one that nobody else has, to be
     // written.
     let answer = unsafe { planner_report(plan.as_ptr(), plan.len(), out.as_mut_ptr(), out.len()) };
-    Ok(&out[..value(answer)? as usize])
+    front(out, answer)
 }
 
 /// The starts of the activity at a place that meet every condition of a set, beside the activities placed at earlier
 /// places: the longest unbroken runs of them, rising.
 ///
 /// ```
-/// use bovkact_planner::{starts, Conditions, Reason};
+/// use bovkact_planner::{starts, Condition, Conditions, Reason};
 ///
 /// let plan = include_bytes!("../../../examples/worked.plan");
 /// assert_eq!(starts(plan, 1, Conditions::NONE)?, [0..=17]);
-/// assert_eq!(starts(plan, 1, Conditions::W)?, [0..=8]);
-/// assert_eq!(starts(plan, 1, Conditions::W | Conditions::D)?, []);
+/// assert_eq!(starts(plan, 1, Condition::W)?, [0..=8]);
+/// assert_eq!(starts(plan, 1, Condition::W | Condition::D)?, []);
 /// assert_eq!(starts(plan, 1, Conditions::from_bits(512)).unwrap_err().reason, Reason::SetTooLarge);
 /// # Ok::<(), bovkact_planner::Refusal>(())
 /// ```
-pub fn starts(plan: &[u8], place: usize, set: Conditions) -> Result<Vec<RangeInclusive<u32>>, Refusal> {
+pub fn starts(plan: &[u8], place: usize, set: impl Into<Conditions>) -> Result<Vec<RangeInclusive<u32>>, Refusal> {
     let mut room = [Interval::default(); RUNS_MOST];
     Ok(starts_into(plan, place, set, &mut room)?.iter().map(|&run| run.into()).collect())
 }
@@ -220,12 +231,13 @@ pub fn starts(plan: &[u8], place: usize, set: Conditions) -> Result<Vec<RangeInc
 pub fn starts_into<'a>(
     plan: &[u8],
     place: usize,
-    set: Conditions,
+    set: impl Into<Conditions>,
     out: &'a mut [Interval],
 ) -> Result<&'a [Interval], Refusal> {
+    let set = set.into().bits();
     // SAFETY: as in `report`; a record is laid out as in C, and all its bits are valid.
-    let answer = unsafe { planner_starts(plan.as_ptr(), plan.len(), place, set.bits(), out.as_mut_ptr(), out.len()) };
-    Ok(&out[..value(answer)? as usize])
+    let answer = unsafe { planner_starts(plan.as_ptr(), plan.len(), place, set, out.as_mut_ptr(), out.len()) };
+    front(out, answer)
 }
 
 #[cfg(test)]
@@ -234,16 +246,39 @@ mod tests {
 
     #[test]
     fn every_number_has_its_reason() {
-        assert_eq!(value(7), Ok(7));
         for number in 1..=12 {
-            let refusal = value((number as u64) << 32 | 9).unwrap_err();
-            assert_eq!((refusal.reason.number(), refusal.line), (number, 9));
+            let refusal = value((number as u64) << 32 | 0xffff_ffff).unwrap_err();
+            assert_eq!((refusal.reason.number(), refusal.line), (number, u32::MAX));
         }
     }
 
     #[test]
+    fn every_value_is_given() {
+        let placed = 1 << 40;
+        for value in [0, u32::MAX] {
+            assert_eq!(outcome_of(placed | value as u64), Ok(Outcome::Placed { start: value }));
+            let conditions = Conditions::from_bits(value);
+            assert_eq!(outcome_of(value as u64), Ok(Outcome::Refused { conditions }));
+        }
+        assert_eq!(value(0xffff_ffff), Ok(u32::MAX));
+        assert_eq!(front(&[7, 8, 9], 2), Ok(&[7, 8][..]));
+    }
+
+    #[test]
     #[should_panic(expected = "no refusal 13")]
-    fn an_unknown_number_panics() {
+    fn number_13_panics() {
         let _ = value(13 << 32);
+    }
+
+    #[test]
+    #[should_panic(expected = "no refusal 255")]
+    fn number_255_panics() {
+        let _ = value(255 << 32);
+    }
+
+    #[test]
+    #[should_panic(expected = "out of range")]
+    fn a_length_beyond_the_slice_panics() {
+        let _ = front(&[7, 8, 9], 4);
     }
 }

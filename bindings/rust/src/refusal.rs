@@ -32,7 +32,7 @@ pub enum Reason {
     AfterNotEarlier = 7,
     /// List not rising, a > b, or too many items.
     ListWrong = 8,
-    /// The charge at T with nothing placed is under the handover charge; line 0.
+    /// Charge at horizon T with nothing placed is under the handover charge; line 0.
     HandoverUnmet = 9,
     /// Lent slice too short for the answer; line 0.
     SliceTooShort = 10,
@@ -81,7 +81,7 @@ impl Display for Reason {
             Reason::IdRepeated => "id of an earlier line",
             Reason::AfterNotEarlier => "`after` names no activity at an earlier place",
             Reason::ListWrong => "list not rising, a > b, or too many items",
-            Reason::HandoverUnmet => "charge at T with nothing placed is under the handover charge",
+            Reason::HandoverUnmet => "charge at horizon T with nothing placed is under the handover charge",
             Reason::SliceTooShort => "lent slice too short for the answer",
             Reason::NoSuchPlace => "place not below the activity count",
             Reason::SetTooLarge => "set over 511",

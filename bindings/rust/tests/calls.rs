@@ -1,4 +1,5 @@
-// The calls on document 01's worked plan, its table of refusals, slices of every length, and several threads at once.
+// The calls on document 01's worked plan, its table of refusals, every condition, the greatest numbers, slices of every
+// length, and several threads at once.
 
 use bovkact_planner::*;
 use std::fs;
@@ -54,8 +55,8 @@ fn outcomes_of_the_worked_plan() {
     let refused = |conditions| Outcome::Refused { conditions };
     let expected = [
         Outcome::Placed { start: 10 },
-        refused(Conditions::W | Conditions::D),
-        refused(Conditions::V),
+        refused(Condition::W | Condition::D),
+        refused(Condition::V.into()),
         Outcome::Placed { start: 15 },
     ];
     assert_eq!(outcomes, expected);
@@ -63,12 +64,12 @@ fn outcomes_of_the_worked_plan() {
 
 #[test]
 fn starts_of_the_worked_plan() {
-    let runs = |place, set| starts(WORKED.as_bytes(), place, set).unwrap();
+    let runs = |place, set: Conditions| starts(WORKED.as_bytes(), place, set).unwrap();
     for (place, last) in [15, 17, 18, 18].into_iter().enumerate() {
         assert_eq!(runs(place, Conditions::NONE), [0..=last]);
     }
-    assert_eq!(runs(0, Conditions::H), [4..=15]);
-    assert_eq!(runs(1, Conditions::W), [0..=8]);
+    assert_eq!(runs(0, Condition::H.into()), [4..=15]);
+    assert_eq!(runs(1, Condition::W.into()), [0..=8]);
     assert_eq!(runs(1, Conditions::ALL), []);
     assert_eq!(runs(3, Conditions::ALL), [15..=18]);
 }
@@ -101,12 +102,12 @@ fn calls_refused() {
     let mut records = [FILLED; RUNS_MOST];
     assert_eq!(report(plan, &mut []), refusal(Reason::SliceTooShort));
     assert_eq!(starts_into(plan, 0, Conditions::ALL, &mut []), refusal(Reason::SliceTooShort));
-    for place in [4, usize::MAX] {
+    for place in [4, 1 << 32, usize::MAX] {
         assert_eq!(outcome(plan, place), refusal(Reason::NoSuchPlace));
         assert_eq!(starts(plan, place, Conditions::NONE), refusal(Reason::NoSuchPlace));
         assert_eq!(starts_into(plan, place, over, &mut records), refusal(Reason::NoSuchPlace));
     }
-    for set in [over, Conditions::from_bits(u32::MAX)] {
+    for set in [512, 65_536, 65_536 + 511, u32::MAX].map(Conditions::from_bits) {
         assert_eq!(starts(plan, 3, set), refusal(Reason::SetTooLarge));
         assert_eq!(starts_into(plan, 3, set, &mut records), refusal(Reason::SetTooLarge));
         assert_eq!(starts_into(plan, 3, set, &mut []), refusal(Reason::SetTooLarge));
@@ -116,8 +117,8 @@ fn calls_refused() {
 
 #[test]
 fn reports_into_slices_of_every_length() {
-    for room in 0..=REPORT_MOST {
-        let mut bytes = [0xa5; REPORT_MOST + 1];
+    for room in (0..=REPORT_MOST + 1).chain([5_000]) {
+        let mut bytes = [0xa5; 5_001];
         let answer = report(WORKED.as_bytes(), &mut bytes[..room]);
         let written = if room < REPORT.len() {
             assert_eq!(answer, refusal(Reason::SliceTooShort));
@@ -130,23 +131,66 @@ fn reports_into_slices_of_every_length() {
     }
 }
 
+// The longest plan, with activities of one tick that share a unit, each placed where it wants to be.
+fn five_activities() -> String {
+    [1000, 2000, 3000, 4000, 4095].iter().fold(changed(1, 1, "4096"), |plan, tick| {
+        plan + &format!("act\t{tick}\t0\t1\t{tick}\t-\t-\t0\t-\t-\t0\t0\t0\t0\t0\n")
+    })
+}
+
+#[test]
+fn starts_up_to_the_last_tick() {
+    let plan = five_activities();
+    assert_eq!(outcome(plan.as_bytes(), 3), Ok(Outcome::Placed { start: 4000 }));
+    assert_eq!(outcome(plan.as_bytes(), 4), Ok(Outcome::Placed { start: 4095 }));
+    assert_eq!(starts(plan.as_bytes(), 4, Conditions::NONE), Ok(vec![0..=4095]));
+}
+
 #[test]
 fn starts_into_slices_of_every_length() {
-    let plan = p() + &changed(2, 5, "0:3,9:11");
-    let runs = [Interval { first: 0, last: 3 }, Interval { first: 9, last: 11 }];
-    for room in 0..=RUNS_MOST {
-        let mut records = [FILLED; RUNS_MOST + 1];
-        let answer = starts_into(plan.as_bytes(), 0, Conditions::W, &mut records[..room]);
-        let written = if room < 2 {
+    let plan = five_activities();
+    let runs = [(0, 999), (1001, 1999), (2001, 2999), (3001, 3999), (4001, 4095)];
+    let runs = runs.map(|(first, last)| Interval { first, last });
+    for room in (0..=RUNS_MOST + 1).chain([5_000]) {
+        let mut records = [FILLED; 5_001];
+        let answer = starts_into(plan.as_bytes(), 4, Condition::U, &mut records[..room]);
+        let written = if room < 5 {
             assert_eq!(answer, refusal(Reason::SliceTooShort));
             0
         } else {
             assert_eq!(answer, Ok(&runs[..]));
-            2
+            5
         };
         assert!(records[written..].iter().all(|&record| record == FILLED), "{room} records");
     }
-    assert_eq!(starts(plan.as_bytes(), 0, Conditions::W), Ok(vec![0..=3, 9..=11]));
+    assert_eq!(starts(plan.as_bytes(), 4, Condition::U), Ok(runs.map(|run| run.first..=run.last).to_vec()));
+}
+
+// Behind one that has unit 0 in every tick, nine activities that are refused with one condition each, W to H.
+const NINE_REFUSED: &str = "\
+act\t0\t0\t20\t0\t-\t-\t0\t-\t-\t0\t0\t0\t0\t0
+act\t1\t1\t1\t0\t20:20\t-\t-\t-\t-\t0\t0\t0\t0\t0
+act\t2\t1\t1\t0\t-\t1\t-\t-\t-\t0\t0\t0\t0\t0
+act\t3\t1\t1\t0\t-\t-\t0\t-\t-\t0\t0\t0\t0\t0
+act\t4\t1\t1\t0\t-\t-\t-\t1=3\t-\t0\t0\t0\t0\t0
+act\t5\t1\t1\t0\t-\t-\t-\t-\t-\t2\t0\t0\t0\t0
+act\t6\t1\t1\t0\t-\t-\t-\t-\t-\t0\t11\t0\t0\t0
+act\t7\t1\t1\t0\t-\t-\t-\t-\t-\t0\t0\t99\t0\t0
+act\t8\t1\t1\t0\t-\t-\t-\t-\t-\t0\t0\t0\t51\t0
+act\t9\t1\t17\t0\t-\t-\t-\t-\t-\t0\t0\t0\t0\t1
+";
+
+// No start meets the one condition, and every start the eight others.
+#[test]
+fn conditions_apart() {
+    let plan = p() + NINE_REFUSED;
+    for (place, one) in (1..).zip(Condition::ALL) {
+        let others = Conditions::from_bits(Conditions::ALL.bits() - one.bit());
+        let last = if one == Condition::H { 3 } else { 19 };
+        assert_eq!(outcome(plan.as_bytes(), place), Ok(Outcome::Refused { conditions: one.into() }));
+        assert_eq!(starts(plan.as_bytes(), place, one), Ok(vec![]));
+        assert_eq!(starts(plan.as_bytes(), place, others), Ok(vec![0..=last]));
+    }
 }
 
 // The worked plan cut off at every byte: accepted behind a line's end alone.
@@ -212,27 +256,46 @@ fn threads_may_share_what_is_given() {
     let _: Box<dyn std::error::Error + Send + Sync> = outcome(b"", 0).unwrap_err().into();
 }
 
+// Document 01's words for the refusals, with "charge at horizon T" for c(T).
+const TEXTS: [&str; 12] = [
+    "over 60,000 bytes",
+    "first word or field count wrong, or no LF",
+    "malformed number or item, or an empty field",
+    "number out of range",
+    "65th activity line",
+    "id of an earlier line",
+    "`after` names no activity at an earlier place",
+    "list not rising, a > b, or too many items",
+    "charge at horizon T with nothing placed is under the handover charge",
+    "lent slice too short for the answer",
+    "place not below the activity count",
+    "set over 511",
+];
+
 #[test]
 fn words() {
-    let texts: std::collections::HashSet<String> = Reason::ALL.iter().map(Reason::to_string).collect();
-    assert_eq!(texts.len(), 12);
+    assert_eq!(Reason::ALL.map(|reason| reason.to_string()), TEXTS);
     let refusal = Refusal { reason: Reason::SetTooLarge, line: 0 };
     assert_eq!(refusal.to_string(), "refusal 12: set over 511");
-    assert_eq!(Conditions::ALL.to_string(), "WDUSEPBVH");
-    assert_eq!(Conditions::NONE.to_string(), "");
-    let every = Condition::ALL.into_iter().map(Conditions::from).fold(Conditions::NONE, Conditions::union);
+    assert_eq!(Condition::ALL.map(Condition::bit), [1, 2, 4, 8, 16, 32, 64, 128, 256]);
+    assert_eq!(Condition::ALL.map(|condition| condition.to_string()).concat(), "WDUSEPBVH");
+}
+
+#[test]
+fn sets() {
+    let every = Condition::ALL.into_iter().fold(Conditions::NONE, |set, condition| set | condition);
     assert_eq!(every, Conditions::ALL);
-    let named = [
-        Conditions::W,
-        Conditions::D,
-        Conditions::U,
-        Conditions::S,
-        Conditions::E,
-        Conditions::P,
-        Conditions::B,
-        Conditions::V,
-        Conditions::H,
-    ];
-    assert_eq!(named.map(Conditions::bits), [1, 2, 4, 8, 16, 32, 64, 128, 256]);
-    assert_eq!(named.map(|set| set.to_string()).concat(), "WDUSEPBVH");
+    assert_eq!((every.bits(), every.to_string().as_str()), (511, "WDUSEPBVH"));
+    assert_eq!(Conditions::NONE.to_string(), "");
+    assert_eq!(Condition::H | (Condition::W | Condition::D), Conditions::from_bits(259));
+}
+
+// The header has the same sizes.
+#[test]
+fn sizes() {
+    let header = include_str!("../../../include/planner.h");
+    let sizes = [PLAN_MOST, ACTIVITIES_MOST, REPORT_MOST, RUNS_MOST, STACK_MOST];
+    for (name, size) in ["PLAN", "ACTIVITIES", "REPORT", "RUNS", "STACK"].into_iter().zip(sizes) {
+        assert!(header.contains(&format!("#define PLANNER_{name}_MOST {size} ")), "{name}");
+    }
 }

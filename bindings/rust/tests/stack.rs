@@ -1,17 +1,22 @@
-// The stack of a thread that calls: 400 KB and some for the thread itself are enough; with too little the process ends
-// at the guard page.
+// The stack of a thread that calls: STACK_MOST bytes are enough for the call; with too little the process ends at the
+// guard page.
 
-use bovkact_planner::{outcome, report, starts_into, Conditions, Interval};
+use bovkact_planner::{outcome, report, starts, starts_into, Conditions, Interval, STACK_MOST};
 use std::env;
 use std::process::Command;
 use std::thread;
 
 const WORKED: &[u8] = include_bytes!("../../../examples/worked.plan");
 
-const CALLS: [fn(); 3] = [
-    || assert!(outcome(WORKED, 3).is_ok()),
-    || assert!(report(WORKED, &mut [0; 100]).is_ok()),
-    || assert!(starts_into(WORKED, 3, Conditions::ALL, &mut [Interval::default(); 4]).is_ok()),
+// What a thread of Rust takes itself; less than 6,000 bytes were measured.
+const THREAD: usize = 8 * 1024;
+
+// The calls, and what each takes beside the library.
+const CALLS: [(fn(), usize); 4] = [
+    (|| assert!(outcome(WORKED, 3).is_ok()), 0),
+    (|| assert!(report(WORKED, &mut [0; 100]).is_ok()), 0),
+    (|| assert!(starts_into(WORKED, 3, Conditions::ALL, &mut [Interval::default(); 4]).is_ok()), 0),
+    (|| assert!(starts(WORKED, 3, Conditions::ALL).is_ok()), 16_384),
 ];
 
 // Makes a call in a thread with a stack of so many bytes.
@@ -21,8 +26,8 @@ fn call_within(stack: usize, call: fn()) {
 
 #[test]
 fn enough() {
-    for call in CALLS {
-        call_within(416 * 1024, call);
+    for (call, more) in CALLS {
+        call_within(STACK_MOST + more + THREAD, call);
     }
 }
 
@@ -30,7 +35,7 @@ fn enough() {
 #[test]
 fn too_little() {
     if let Ok(call) = env::var("TOO_LITTLE_FOR") {
-        return call_within(64 * 1024, CALLS[call.parse::<usize>().unwrap()]);
+        return call_within(64 * 1024, CALLS[call.parse::<usize>().unwrap()].0);
     }
     for call in 0..CALLS.len() {
         let mut program = Command::new(env::current_exe().unwrap());
