@@ -1,19 +1,16 @@
--- Laws of draws by tick: raised between two ticks, summed over the placed, and condition B by the sums.
+-- Laws of draws by tick: those of one activity, summed over the placed, and condition B by the sums.
 -- Assumes nothing.
 use Prim.Native.Nat.{ℕ, zero, suc, _+_, _-_, _*_, _≤_, _<_}
-use mathlib.Core.Path.{_≡_, refl, sym, ap, _∙_, subst}
-use mathlib.Core.Logic.{_≢_}
+use mathlib.Core.Path.{_≡_, refl, ap, _∙_, subst}
 use mathlib.Core.Bool.{Bool, true, false, cond, _&&_}
 use mathlib.Core.List.{List, [], _∷_, List·Memᴰ, List·Memᴰ·head, List·Memᴰ·tail}
-use native.Mathlib.Decide.{ℕ-discrete}
 use native.Mathlib.Omega.{arith}
 use lib.Dec.{leb, ltb}
 use lib.IntN.{pos, _+ℤ_, _-ℤ_}
 use lib.Signed.{leZ, _≤ℤ_}
-use lib.ListN.{length, getD, set, replicate, length-set}
-use lib.Seq.{getD-set-same, getD-set-other}
+use lib.ListN.{length, getD}
 use borrow.Author.Tests.{leb-true, ltb-true, ltb-false, le-leb, lt-leb, lt-ltb, le-ltb}
-use Rattle.rules.specs.Plan.{Header, Entry, Schedule, at, end}
+use Rattle.rules.specs.Plan.{Header, Entry, Schedule, at}
 use Rattle.rules.specs.Tests.{each, total}
 use Rattle.rules.specs.Hold.{holds}
 use Rattle.rules.specs.Warmup.{warmup, warmupAt}
@@ -28,57 +25,16 @@ use Rattle.plan.specs.declared.Activity.{Activity as ActivityStruct}
 use Rattle.placed.specs.declared.Schedule.{Schedule as ScheduleStruct}
 use Rattle.placed.specs.View.{entriesView, scheduleView}
 use Rattle.placed.specs.Ready.{Reached}
+use Rattle.placed.specs.Raised.{Raised}
 use Rattle.charge.specs.declared.OwnDraw.{OwnDraw}
-use Rattle.charge.specs.Charge.{ownDraw, drawOf, drawMore, drawWith, chargeNext, chargeBy, keptBy, keptAt, Drawing, RaisedBetween}
+use Rattle.charge.specs.Charge.{ownDraw, drawOf, drawMore, drawWith, chargeNext, chargeBy, keptBy, keptAt, Drawing}
 use Rattle.charge.proofs.ChargeLaws.{le-true}
+use Rattle.placed.proofs.Raising.{cond-most}
 use Rattle.placed.proofs.Entries.{entries-none, entries-more, entries-count, entry-all, formed-at, in-time}
-
-cond-most : (b : Bool) (x y : ℕ) → x ≤ y → cond b x 0 ≤ y
-cond-most true x y h = h
-cond-most false x y h = omega arith
-
--- ---- raised between two ticks
-abbrev within : ℕ → ℕ → ℕ → Bool
-within from to t = leb from t && ltb t to
-
-pub raised-none : (from by : ℕ) (l : List ℕ) → RaisedBetween from from by l l
-raised-none from by l = record { size = refl; at = λ t. go t (leb from t) refl }
-  where
-    go : (t : ℕ) (b : Bool) → leb from t ≡ b → getD l t 0 ≡ getD l t 0 + cond (b && ltb t from) by 0
-    go t true e = rw (le-ltb t from (leb-true _ _ e)) (omega arith)
-    go t false e = omega arith
-
-pub raised-more : (from t by : ℕ) (old new : List ℕ) → from ≤ t → t < length old → RaisedBetween from t by old new → RaisedBetween from (t + 1) by old (set new t (getD new t 0 + by))
-raised-more from t by old new k l r =
-    record { size = length-set new t _ ∙ r .size; at = λ u. go u (ℕ-discrete u t) }
-  where
-    other : (u : ℕ) → u ≢ t → ltb u t ≡ ltb u (t + 1)
-    other u h = bool-ext _ _ (λ e. let m : u < t = ltb-true _ _ e in lt-ltb u (t + 1) (omega arith)) (λ e. let m : u < t + 1 = ltb-true _ _ e in lt-ltb u t (omega arith))
-
-    here : getD (set new t (getD new t 0 + by)) t 0 ≡ getD old t 0 + cond (within from (t + 1) t) by 0
-    here =
-        getD-set-same new t _ 0 (omega (arith, r .size))
-        ∙ rw (le-leb from t k, lt-ltb t (t + 1) (omega arith)) (ap (λ x. x + by) (r .at t ∙ rw (le-leb from t k, le-ltb t t (omega arith)) (omega arith)))
-
-    go : (u : ℕ) → Dec (u ≡ t) → getD (set new t (getD new t 0 + by)) u 0 ≡ getD old u 0 + cond (within from (t + 1) u) by 0
-    go u (yes e) = subst (λ (v : ℕ). getD (set new t (getD new t 0 + by)) v 0 ≡ getD old v 0 + cond (within from (t + 1) v) by 0) (sym e) here
-    go u (no h) = getD-set-other new t u _ 0 h ∙ r .at u ∙ ap (λ b. getD old u 0 + cond (leb from u && b) by 0) (other u h)
-
--- the tick to be raised next is as it was
-pub raised-yet : (from t by : ℕ) (old new : List ℕ) → RaisedBetween from t by old new → getD new t 0 ≡ getD old t 0
-raised-yet from t by old new r = r .at t ∙ go (leb from t)
-  where
-    go : (b : Bool) → getD old t 0 + cond (b && ltb t t) by 0 ≡ getD old t 0
-    go true = rw (le-ltb t t (omega arith)) (omega arith)
-    go false = omega arith
-
--- it is raised by no more
-pub raised-most : (from to by : ℕ) (old new : List ℕ) → RaisedBetween from to by old new → (t : ℕ) → getD new t 0 ≤ getD old t 0 + by
-raised-most from to by old new r t = omega (arith, r .at t, cond-most (within from to t) by by (omega arith))
 
 -- ---- the draw of one activity
 -- raised by the heater's draw, then by its own
-pub raised-own : (o : OwnDraw) (old mid new : List ℕ) → RaisedBetween (o .heat) (o .start) (o .heater) old mid → RaisedBetween (o .start) (o .end) (o .draw) mid new → (t : ℕ) → getD new t 0 ≡ drawOf o t + getD old t 0
+pub raised-own : (o : OwnDraw) (old mid new : List ℕ) → Raised (o .heat) (o .start) (o .heater) old mid → Raised (o .start) (o .end) (o .draw) mid new → (t : ℕ) → getD new t 0 ≡ drawOf o t + getD old t 0
 unfolding drawOf
 raised-own o old mid new p q t = go (ltb t (o .start)) refl (leb (o .heat) t) refl (ltb t (o .end)) refl
   where
@@ -156,12 +112,6 @@ module _ (h : HeaderStruct) (s : ScheduleStruct) (r : Reached (headerView h) (sc
     pub own-draws : (getD (s .activities) i noStruct .draw ≤ 1000000) × (h .heater ≤ 1000000)
     unfolding headerView activityView
     own-draws = (formed-at (headerView h) s r i k .draw, r .header .heater)
-
--- an array of zeros
-pub zeros : (n t : ℕ) → _≡_ {A = ℕ} (getD (replicate n 0) t 0) 0
-zeros zero t = refl
-zeros (suc n) zero = refl
-zeros (suc n) (suc t) = zeros n t
 
 -- ---- condition B by the sums
 charge-is : (h : HeaderStruct) (placed : Schedule) (draw : ℕ → ℕ) → ((t : ℕ) → draw t ≡ drawn (headerView h) placed t) → (t : ℕ) → chargeBy h draw t ≡ charge (headerView h) placed t

@@ -63,8 +63,3 @@ pub record Ran (h : HeaderStruct) (draw : ℕ → ℕ) (from to : ℕ) (old new 
   pub past : (t : ℕ) → t ≤ from → getD new t (pos 0) ≡ getD old t (pos 0)
   pub next : (t : ℕ) → from ≤ t → t < to → getD new (t + 1) (pos 0) ≡ chargeNext (h .capacity) (h .rate) (draw t) (getD new t (pos 0))
   pub kept : (t : ℕ) → from ≤ t → t < to → leZ (pos (h .floor)) (getD new t (pos 0)) ≡ true
-
--- the elements from `from` to before `to` are raised by `by`; the others remain
-pub record RaisedBetween (from to by : ℕ) (old new : List ℕ) : Type 0 where
-  pub size : length new ≡ length old
-  pub at : (t : ℕ) → getD new t 0 ≡ getD old t 0 + cond (leb from t && ltb t to) by 0

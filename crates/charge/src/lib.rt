@@ -11,9 +11,10 @@ ghost use Rattle.plan.specs.View.{headerView, activityView};
 ghost use Rattle.placed.specs.View.{scheduleView};
 ghost use Rattle.placed.specs.Ready.{Reached, Ready};
 ghost use Rattle.placed.specs.Marked.{Marked};
-ghost use Rattle.charge.specs.Charge.{ownDraw, drawOf, drawMore, drawWith, chargeNext, keptBy, keptAt, Drawing, Charges, Ran, RaisedBetween};
+ghost use Rattle.charge.specs.Charge.{ownDraw, drawOf, drawMore, drawWith, chargeNext, keptBy, keptAt, Drawing, Charges, Ran};
 use placed::Schedule;
 use placed::mark_if;
+use placed::raise_ticks;
 use plan::Activity;
 use plan::Header;
 
@@ -182,27 +183,14 @@ fn keeps_charge(
     false
 }
 
-// Adds `by` to the draws in the ticks from `from` to before `to`.
-fn raise(draws: &mut [u32], from: usize, to: usize, by: u32)
-    requires { ⌜ (from ≤ to) × (to ≤ length (now draws)) ⌝ }
-    requires { ⌜ ((t : ℕ) → getD (now draws) t 0 + by < 4294967296) ⌝ }
-    ensures { λ _. ⌜ RaisedBetween from to by (now (draws .entry)) (now (draws .exit)) ⌝ }
-{
-    let mut t = from;
-    while t < to {
-        draws[t] = draws[t] + by;
-        t += 1;
-    }
-}
-
 // Adds what one activity draws to the draws in its ticks.
 fn add_draw(draws: &mut [u32], own: OwnDraw)
     requires { ⌜ (own .heat ≤ own .start) × (own .start ≤ own .end) × (own .end ≤ length (now draws)) ⌝ }
     requires { ⌜ ((t : ℕ) → getD (now draws) t 0 + own .draw + own .heater < 4294967296) ⌝ }
     ensures { λ _. ⌜ ((t : ℕ) → getD (now (draws .exit)) t 0 ≡ drawOf own t + getD (now (draws .entry)) t 0) ⌝ }
 {
-    raise(draws, own.heat, own.start, own.heater);
-    raise(draws, own.start, own.end, own.draw);
+    raise_ticks(draws, own.heat, own.start, own.heater);
+    raise_ticks(draws, own.start, own.end, own.draw);
 }
 
 // Writes the draws of the placed in each tick over zeros.

@@ -8,7 +8,7 @@ use native.Mathlib.Omega.{arith}
 use native.Mathlib.Numerals.{add-one}
 use lib.Dec.{leb}
 use borrow.Author.Tests.{le-leb, leb-true}
-use Rattle.rules.specs.Plan.{Header, Activity, Entry, Schedule, at, end}
+use Rattle.rules.specs.Plan.{Header, Activity, Entry, Schedule, at}
 use Rattle.rules.specs.Tests.{ever, total}
 use Rattle.rules.specs.Hold.{holds}
 use Rattle.rules.specs.Load.{load, loadKept}

@@ -1,24 +1,18 @@
 -- Loads tick by tick, and the starts from which each tick of a candidate has room.
-use Prim.Native.Nat.{ℕ, zero, suc, _+_, _≤_}
+use Prim.Native.Nat.{ℕ, zero, suc, _+_}
 use mathlib.Core.Path.{_≡_}
-use mathlib.Core.Bool.{Bool, cond, _&&_}
+use mathlib.Core.Bool.{Bool, cond}
 use mathlib.Core.List.{List}
-use lib.Dec.{leb, ltb}
+use lib.Dec.{leb}
 use lib.ListN.{length, getD}
 use Rattle.rules.specs.Plan.{Activity, Schedule}
 use Rattle.rules.specs.Tests.{each}
 use Rattle.rules.specs.Load.{load}
 
--- the ticks from `from` to before `to` have `weight` more
-pub record Raised (from to weight : ℕ) (old new : List ℕ) : Type 0 where
-  pub size : length new ≡ length old
-  pub sum : (t : ℕ) → getD new t 0 ≡ getD old t 0 + cond (leb from t && ltb t to) weight 0
-
--- each tick's load, and a bound that 64 weights of 32 bits have
+-- each tick's load
 pub record Loaded (quantity : Activity → ℕ) (placed : Schedule) (loads : List ℕ) : Type 0 where
   pub size : length loads ≡ 4096
   pub sum : (t : ℕ) → getD loads t 0 ≡ load quantity placed t
-  pub small : (t : ℕ) → getD loads t 0 ≤ 274877906944
 
 -- at tick t there is room for a weight beside the loads
 unfoldable pub room : List ℕ → ℕ → ℕ → ℕ → Bool

@@ -35,7 +35,7 @@ fn mark_load(
     requires { ⌜ Room by count (now table) ⌝ }
     ensures { λ _. ⌜ Marked (clearFor (loadClear (quantityOf which (activityView candidate)) (scheduleView schedule) weight limit) (candidate .duration)) by count (now (table .entry)) (now (table .exit)) ⌝ }
 {
-    let mut load = [0u64; 4096];
+    let mut load = [0u32; 4096];
     add::fill_load(schedule, candidate, which, &mut load);
     room::mark_clear(&load, candidate.duration, weight, limit, count, by, table);
 }

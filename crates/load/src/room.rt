@@ -2,18 +2,18 @@
 use placed::raise;
 ghost use mathlib.Core.Path.{_≡_};
 ghost use mathlib.Core.Bool.{cond};
-ghost use Prim.Native.Nat.{ℕ, _+_, _<_, _≤_};
+ghost use Prim.Native.Nat.{_+_, _<_, _≤_};
 ghost use lib.Dec.{leb};
-ghost use lib.ListN.{length, getD};
+ghost use lib.ListN.{length};
 ghost use Rattle.load.specs.Clear.{clearSince, room, clearFor};
 ghost use Rattle.placed.specs.Marked.{Marked, Room};
 
 // The tick from which all have room up to the tick t, given that from which all before t have.
-fn clear_since(load: u64, weight: u32, limit: u32, t: u32, since: u32) -> u32
-    requires { ⌜ (load + weight < 18446744073709551616) × (t < 4096) ⌝ }
+fn clear_since(load: u32, weight: u32, limit: u32, t: u32, since: u32) -> u32
+    requires { ⌜ t < 4096 ⌝ }
     ensures { λ r. ⌜ r ≡ cond (leb (weight + load) limit) since (t + 1) ⌝ }
 {
-    if (weight as u64) + load <= (limit as u64) {
+    if (weight as u64) + (load as u64) <= (limit as u64) {
         since
     } else {
         t + 1
@@ -21,8 +21,8 @@ fn clear_since(load: u64, weight: u32, limit: u32, t: u32, since: u32) -> u32
 }
 
 // The tick from which all before `to` have room.
-fn clear_before(load: &[u64], to: u32, weight: u32, limit: u32) -> u32
-    requires { ⌜ (to ≤ length (now load)) × (to ≤ 4096) × ((t : ℕ) → getD (now load) t 0 + weight < 18446744073709551616) ⌝ }
+fn clear_before(load: &[u32], to: u32, weight: u32, limit: u32) -> u32
+    requires { ⌜ (to ≤ length (now load)) × (to ≤ 4096) ⌝ }
     ensures { λ r. ⌜ r ≡ clearSince (room (now (load .entry)) weight limit) to ⌝ }
 {
     let mut since = 0;
@@ -35,7 +35,7 @@ fn clear_before(load: &[u64], to: u32, weight: u32, limit: u32) -> u32
 
 // Marks the starts from which each of `duration` ticks has room.
 pub fn mark_clear(
-    load: &[u64],
+    load: &[u32],
     duration: u32,
     weight: u32,
     limit: u32,
@@ -43,7 +43,7 @@ pub fn mark_clear(
     by: u32,
     table: &mut [u32],
 )
-    requires { ⌜ (1 ≤ duration) × (count + duration ≤ 4097) × (length (now load) ≡ 4096) × ((t : ℕ) → getD (now load) t 0 + weight < 18446744073709551616) ⌝ }
+    requires { ⌜ (1 ≤ duration) × (count + duration ≤ 4097) × (length (now load) ≡ 4096) ⌝ }
     requires { ⌜ Room by count (now table) ⌝ }
     ensures { λ _. ⌜ Marked (clearFor (room (now (load .entry)) weight limit) duration) by count (now (table .entry)) (now (table .exit)) ⌝ }
 {

@@ -3,3 +3,4 @@ pub mod Entries
 pub mod Lists
 pub mod Marks
 pub mod Places
+pub mod Raising

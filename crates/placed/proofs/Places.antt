@@ -12,15 +12,16 @@ use Rattle.plan.specs.declared.Activity.{Activity as ActivityStruct}
 use Rattle.placed.specs.declared.Schedule.{Schedule as ScheduleStruct}
 use Rattle.placed.specs.View.{scheduleView}
 use Rattle.placed.specs.Ready.{Reached, Ready, Bounded}
-use Rattle.placed.proofs.Entries.{entryAt, entry-in}
+use Rattle.placed.proofs.Entries.{formed-at, in-time}
 
 -- what is reached is bounded, and so is what is ready
 pub reached-bounded : (h : Header) (s : ScheduleStruct) → Reached h (scheduleView s) → s .count ≤ 64 → ((i : ℕ) → i < s .count → Sized (getD (s .activities) i noStruct)) → Bounded s
 unfolding scheduleView activityView
 reached-bounded h s r few sizes = record {
   few = few;
-  ends = λ i k. omega (arith, r .inTime (entryAt (s .activities) (s .starts) i) (entry-in (s .activities) (s .starts) (s .count) i k), r .header .horizon .1);
+  ends = λ i k. omega (arith, in-time h s r i k, r .header .horizon .1);
   sizes = sizes;
+  light = λ i k. (formed-at h s r i k .engines, formed-at h s r i k .peak);
 }
 
 pub bounded : (h : HeaderStruct) (s : ScheduleStruct) (a : ActivityStruct) → Ready h s a → Bounded s

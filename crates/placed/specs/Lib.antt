@@ -1,3 +1,4 @@
 pub mod View
 pub mod Ready
 pub mod Marked
+pub mod Raised

@@ -23,6 +23,7 @@ pub record Bounded (s : ScheduleStruct) : Type 0 where
   pub few : s .count ≤ 64
   pub ends : (i : ℕ) → i < s .count → getD (s .starts) i 0 + getD (s .activities) i noStruct .duration ≤ 4096
   pub sizes : (i : ℕ) → i < s .count → Sized (getD (s .activities) i noStruct)
+  pub light : (i : ℕ) → i < s .count → (getD (s .activities) i noStruct .engines ≤ 64) × (getD (s .activities) i noStruct .peak ≤ 1000000)
 
 -- such a schedule as the code holds it, and a candidate beside it
 pub record Ready (h : HeaderStruct) (s : ScheduleStruct) (a : ActivityStruct) : Type 0 where

@@ -5,7 +5,7 @@ use mathlib.Core.Path.{_≡_, sym, _∙_, ap}
 use mathlib.Core.List.{List}
 use native.Mathlib.Omega.{arith}
 use Rattle.rules.specs.Plan.{Plan}
-use Rattle.rules.specs.Reading.{Reading, accepted, refused, reading}
+use Rattle.rules.specs.Reading.{accepted, refused, reading}
 use Rattle.rules.specs.Print.{planText}
 use Rattle.rules.specs.WellFormed.{WellFormed, Reachable}
 use Rattle.rules.specs.Acceptance.{Acceptance}

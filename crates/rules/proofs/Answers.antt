@@ -1,17 +1,14 @@
 -- Every reply is right, beside any schedule.
-use Prim.Native.Nat.{ℕ, zero, suc, _+_, _-_, _^_, _<_, _≤_}
-use mathlib.Core.Path.{_≡_, refl, sym, _∙_, ap, subst}
-use mathlib.Core.Logic.{_≢_, _↔_}
-use mathlib.Core.Bool.{Bool, true, false}
-use mathlib.Core.List.{List}
+use Prim.Native.Nat.{ℕ, _<_}
+use mathlib.Core.Path.{_≡_, refl, sym, subst}
+use mathlib.Core.Bool.{Bool, true}
 use mathlib.Core.Option.{Option, none, some}
 use native.Mathlib.Omega.{arith}
 use Rattle.rules.specs.Plan.{Header, Activity, Schedule}
-use Rattle.rules.specs.Conditions.{conditionCount, allConditions, has, meets, meetsSet}
+use Rattle.rules.specs.Conditions.{allConditions, meets, meetsSet}
 use Rattle.rules.specs.Answer.{valid, common, nearest, letters, answered, answer}
 use Rattle.rules.specs.Outcomes.{starts, distance, reply}
 use Rattle.rules.specs.Demand.{Start, Valid, RefusedWith, PlacedAt, Right}
-use Rattle.rules.specs.declared.Outcome.{Outcome}
 use Rattle.rules.specs.declared.Outcome.the-variants.{Placed, Refused}
 use Rattle.rules.proofs.Tests.{not-ever}
 use Rattle.rules.proofs.Sets.{meets-at, meets-all, all-of-them}

@@ -1,8 +1,8 @@
 -- Demand 3 holds of every accepted file.
 -- Assumes nothing.
-use Prim.Native.Nat.{ℕ, zero, suc, _+_, _≤_, _<_}
+use Prim.Native.Nat.{ℕ, zero, suc, _≤_, _<_}
 use mathlib.Core.Path.{_≡_, refl, sym, _∙_, ap, subst}
-use mathlib.Core.List.{List, [], _∷_, _++_}
+use mathlib.Core.List.{List, [], _++_}
 use native.Mathlib.Omega.{arith}
 use native.Mathlib.Nat.{add-zero, not-suc-le-zero}
 use lib.ListN.{length, getD}
@@ -10,9 +10,8 @@ use borrow.Author.Tests.{lt-leb}
 use Rattle.rules.specs.Plan.{Header, Activity, Plan, Schedule, end as ends}
 use Rattle.rules.specs.Lines.{lines}
 use Rattle.rules.specs.Outcomes.{reply, added, activityAt, placed, outcome, finished}
-use Rattle.rules.specs.Reading.{Reading, accepted, reading}
 use Rattle.rules.specs.Report.{outcomeLine, outcomeLines, endLine, report, answerTo, output}
-use Rattle.rules.specs.Calls.{full, outcomeValues, outcomeOf, outcomeCall, reportOf, reportCall}
+use Rattle.rules.specs.Calls.{outcomeOf, outcomeCall, reportOf, reportCall}
 use Rattle.rules.specs.WellFormed.{WellFormed, Reachable}
 use Rattle.rules.specs.Demand.{Right, nth, placedBy, linesBy, reportBy, DemandThree}
 use Rattle.rules.specs.declared.Outcome.{Outcome}

@@ -1,13 +1,13 @@
 -- The ten cases marked † in document 01 (Edges), as one table of tests that antt computes.
 -- Assumes nothing.
-use Prim.Native.Nat.{ℕ, suc, _<_}
+use Prim.Native.Nat.{ℕ, _<_}
 use mathlib.Core.Path.{_≡_, refl}
 use mathlib.Core.Bool.{Bool, true, false, _&&_}
 use mathlib.Core.List.{List, [], _∷_, _++_}
-use lib.Dec.{eqb, ltb}
+use lib.Dec.{eqb}
 use lib.ListN.{getD, length}
 use Rattle.rules.specs.Open.{opened}
-use Rattle.rules.specs.Bytes.{bytes, same}
+use Rattle.rules.specs.Bytes.{same}
 use Rattle.rules.specs.Tests.{every}
 use Rattle.rules.specs.Warmup.{warmupEntry}
 use Rattle.rules.specs.Report.{output}

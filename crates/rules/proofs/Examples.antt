@@ -4,14 +4,13 @@ use Prim.Native.Nat.{ℕ}
 use Prim.Native.String.{String}
 use mathlib.Core.Path.{_≡_, refl}
 use mathlib.Core.Bool.{Bool, true, _&&_}
-use mathlib.Core.List.{List, [], _∷_, map, List·Memᴰ}
+use mathlib.Core.List.{List, [], _∷_, map}
 use Rattle.rules.specs.Open.{opened}
 use Rattle.rules.specs.Bytes.{same}
 use Rattle.rules.specs.Tests.{every}
 use Rattle.rules.specs.Report.{output}
 use Rattle.rules.specs.Calls.{startsCall}
 use Rattle.rules.proofs.Inputs.{tabbed}
-use Rattle.rules.proofs.Tests.{every-mem}
 
 -- a plan and what the program prints for it, with a space for each tab
 pub record Example : Type 0 where

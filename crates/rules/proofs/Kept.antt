@@ -1,16 +1,16 @@
 -- No limit is broken: not by the empty schedule, and not by a valid start more.
-use Prim.Native.Nat.{ℕ, zero, suc, _+_, _-_, _<_, _≤_}
-use mathlib.Core.Path.{_≡_, refl, sym, _∙_, ap, subst}
+use Prim.Native.Nat.{ℕ, zero, suc, _+_, _≤_}
+use mathlib.Core.Path.{_≡_, refl}
 use mathlib.Core.Bool.{Bool, true, false, cond}
-use mathlib.Core.List.{List, [], _∷_}
+use mathlib.Core.List.{[], _∷_}
 use native.Mathlib.Omega.{arith}
 use lib.Dec.{leb, leb·zero}
 use lib.IntN.{ℤ, pos, _+ℤ_, _-ℤ_}
 use lib.Signed.{leZ, _≤ℤ_}
-use borrow.Author.Tests.{le-leb, leb-true, leb-false}
+use borrow.Author.Tests.{le-leb}
 use Rattle.rules.specs.Plan.{Header, Activity, Schedule, at}
 use Rattle.rules.specs.Tests.{every, total}
-use Rattle.rules.specs.MeetsU.{meetsU, unitsKept}
+use Rattle.rules.specs.MeetsU.{unitsKept}
 use Rattle.rules.specs.MeetsS.{meetsS, needsKept}
 use Rattle.rules.specs.Load.{load, loadKept}
 use Rattle.rules.specs.MeetsE.{meetsE, enginesKept}

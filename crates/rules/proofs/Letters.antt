@@ -2,14 +2,14 @@
 use Prim.Native.Nat.{ℕ, zero, suc, _+_, _-_, _^_, _<_, _≤_}
 use mathlib.Core.Path.{_≡_, refl, sym, _∙_, ap}
 use mathlib.Core.Logic.{_≢_, _↔_}
-use mathlib.Core.Bool.{Bool, true, false, cond, not, and-true}
+use mathlib.Core.Bool.{Bool, true, false, cond, and-true}
 use native.Mathlib.Omega.{arith}
 use native.Mathlib.Nat.{not-suc-le-zero, add-zero, add-suc}
-use lib.Dec.{eqb, ltb}
+use lib.Dec.{ltb}
 use borrow.Author.Tests.{eq-eqb, ne-eqb, ltb-true, ltb-false}
 use Rattle.rules.specs.Conditions.{conditionCount, allConditions, has, meetsSet}
 use Rattle.rules.specs.Answer.{common, kept, letters}
-use Rattle.rules.proofs.Tests.{ever-at, ever-found, ever-none, last-or, both-ways}
+use Rattle.rules.proofs.Tests.{ever-at, ever-found, ever-none, last-or}
 use Rattle.rules.proofs.Sets.{left-out, kept-of, other-of, to-kept, meets-at, meets-all, all-of-them}
 
 module _ (test : ℕ → ℕ → Bool) (n : ℕ) where

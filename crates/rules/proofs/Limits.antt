@@ -1,17 +1,17 @@
 -- What the six tests over a whole schedule say of it.
 use Prim.Native.Nat.{ℕ, zero, suc, _+_, _-_, _<_, _≤_}
-use mathlib.Core.Path.{_≡_, refl, sym, _∙_, ap, subst}
-use mathlib.Core.Bool.{Bool, true, false, not, _&&_}
-use mathlib.Core.List.{List, [], _∷_, List·Memᴰ}
+use mathlib.Core.Path.{_≡_, sym, subst}
+use mathlib.Core.Bool.{true, not, _&&_}
+use mathlib.Core.List.{[], _∷_, List·Memᴰ}
 use native.Mathlib.Omega.{arith}
 use native.Mathlib.Nat.{not-suc-le-zero}
-use lib.Dec.{T, leb, eqb}
+use lib.Dec.{T, leb}
 use lib.IntN.{ℤ, pos}
-use lib.ListN.{length, getD}
+use lib.ListN.{length}
 use lib.Signed.{leZ, _≤ℤ_, leZ-yes}
 use borrow.Author.Tests.{leb-true, ltb-true, eqb-true, not-true}
-use Rattle.rules.specs.Plan.{Header, Activity, Setting, Entry, Schedule, at, end}
-use Rattle.rules.specs.Tests.{each, every, total}
+use Rattle.rules.specs.Plan.{Header, Setting, Entry, Schedule, end}
+use Rattle.rules.specs.Tests.{each, every}
 use Rattle.rules.specs.Hold.{holds}
 use Rattle.rules.specs.MeetsU.{share, clash, meetsU, unitsKept}
 use Rattle.rules.specs.MeetsS.{standing, met, needsKept}

@@ -1,20 +1,17 @@
 -- A plan whose activities stand in the scheduling order has the same outcomes, report and runs.
 -- Assumes nothing.
 use Prim.Native.Nat.{ℕ, zero, suc, _<_, _≤_}
-use mathlib.Core.Path.{_≡_, refl, sym, _∙_, ap}
-use mathlib.Core.Bool.{Bool, true}
+use mathlib.Core.Path.{_≡_, refl, _∙_, ap}
 use mathlib.Core.List.{List, [], _∷_, _++_}
 use native.Mathlib.Omega.{arith}
-use lib.Dec.{leb}
 use lib.ListN.{length, getD}
 use borrow.Author.Tests.{le-leb}
-use Rattle.rules.specs.Plan.{Activity, Plan, Schedule}
+use Rattle.rules.specs.Plan.{Activity, Plan}
 use Rattle.rules.specs.Order.{insertByPriority, order}
 use Rattle.rules.specs.OrderRight.{nthActivity}
-use Rattle.rules.specs.Outcomes.{noActivity, activityAt, reply, added, placed, outcome, finished}
-use Rattle.rules.specs.Report.{outcomeLine, outcomeLines, endLine, report}
+use Rattle.rules.specs.Outcomes.{noActivity, activityAt, placed, outcome, finished}
+use Rattle.rules.specs.Report.{outcomeLines, endLine, report}
 use Rattle.rules.specs.Calls.{runs}
-use Rattle.rules.specs.declared.Interval.{Interval}
 use Rattle.rules.proofs.Order.{order-right, order-length}
 
 -- activities whose priorities rise

@@ -1,14 +1,13 @@
 -- The lines of a report: that of each place, then the end line.
 -- Assumes nothing.
 use Prim.Native.Nat.{ℕ, zero, suc, _+_, _<_}
-use mathlib.Core.Path.{_≡_, refl, sym, _∙_, ap, subst}
+use mathlib.Core.Path.{_≡_, refl, sym, _∙_, ap}
 use mathlib.Core.Bool.{Bool, true, false, cond, not}
 use mathlib.Core.List.{List, [], _∷_, _++_, append-assoc, append-nil}
 use native.Mathlib.Omega.{arith}
 use native.Mathlib.Nat.{not-suc-le-zero, zero-add, add-zero}
 use lib.Dec.{eqb}
 use lib.ListN.{length, getD}
-use Rattle.rules.specs.Bytes.{bytes}
 use Rattle.rules.specs.Tests.{every}
 use Rattle.rules.specs.Plan.{Header, Activity, Plan, Schedule}
 use Rattle.rules.specs.Number.{decimal}

@@ -1,5 +1,5 @@
 -- Sets of conditions as numbers: what leaving one out does, by computation over all sets; and what it is to meet a set.
-use Prim.Native.Nat.{ℕ, zero, suc, _+_, _-_, _^_, _<_, _≤_}
+use Prim.Native.Nat.{ℕ, suc, _-_, _^_, _<_, _≤_}
 use mathlib.Core.Path.{_≡_, refl, sym, _∙_, ap}
 use mathlib.Core.Logic.{_≢_}
 use mathlib.Core.Bool.{Bool, true, false, _&&_, _||_, not, Bool·beq}
@@ -9,7 +9,7 @@ use lib.ListN.{length}
 use borrow.Author.Tests.{eq-eqb, ne-eqb}
 use Rattle.rules.specs.Tests.{each}
 use Rattle.rules.specs.Conditions.{conditionCount, allConditions, conditions, conditionLetters, has, meetsSet}
-use Rattle.rules.proofs.Tests.{each-at, each-all, and-left, and-right, and-both, both-ways, or-left, or-right}
+use Rattle.rules.proofs.Tests.{each-at, each-all, and-left, and-right, and-both, both-ways}
 
 -- the number of conditions, of letters and of sets
 pub counted : (length conditions ≡ conditionCount) × (length conditionLetters ≡ conditionCount) × (suc allConditions ≡ 2 ^ conditionCount)

@@ -12,7 +12,6 @@ use Rattle.rules.specs.Runs.{runsFrom}
 use Rattle.rules.specs.Report.{report}
 use Rattle.rules.specs.declared.Outcome.{Outcome}
 use Rattle.rules.specs.declared.Outcome.the-variants.{Placed, Refused}
-use Rattle.rules.specs.declared.Refusal.{Refusal}
 use Rattle.rules.specs.declared.Interval.{Interval}
 use Rattle.rules.specs.declared.OutcomeAnswer.{OutcomeAnswer}
 use Rattle.rules.specs.declared.OutcomeAnswer.the-variants.{Answer, No}

@@ -1,7 +1,6 @@
 -- D (01, Nine conditions): "each activity in `after` is placed and its end is at most s".
 use Prim.Native.Nat.{ℕ}
 use mathlib.Core.Bool.{Bool, _&&_}
-use mathlib.Core.List.{List}
 use lib.Dec.{leb, eqb}
 use Rattle.rules.specs.Plan.{Header, Activity, Schedule, end}
 use Rattle.rules.specs.Tests.{every, anyOf}

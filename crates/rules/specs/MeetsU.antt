@@ -1,7 +1,7 @@
 -- U (01, Nine conditions): "no placed activity that shares a unit holds a tick that the candidate holds".
 use Prim.Native.Nat.{ℕ}
 use mathlib.Core.Bool.{Bool, true, _&&_, not}
-use mathlib.Core.List.{List, [], _∷_}
+use mathlib.Core.List.{[], _∷_}
 use lib.Dec.{eqb}
 use Rattle.rules.specs.Plan.{Header, Activity, Entry, Schedule, at}
 use Rattle.rules.specs.Tests.{ever, anyOf, every}

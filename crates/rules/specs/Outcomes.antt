@@ -1,6 +1,6 @@
 -- Outcomes place by place, and the finished schedule (01, Placing and refusing).
 use Prim.Native.Nat.{ℕ, zero, suc, _-_}
-use mathlib.Core.List.{List, [], _∷_}
+use mathlib.Core.List.{[], _∷_}
 use lib.ListN.{length, getD}
 use Rattle.rules.specs.Plan.{Header, Activity, Plan, Schedule, at}
 use Rattle.rules.specs.Order.{order}

@@ -1,5 +1,5 @@
 -- The report's bytes, and the program's output (01, Calls: "Report lines, by place").
-use Prim.Native.Nat.{ℕ, zero, suc, _+_, _-_}
+use Prim.Native.Nat.{ℕ, zero, suc, _-_}
 use mathlib.Core.List.{List, [], _∷_, _++_}
 use lib.IntN.{natAbs}
 use lib.ListN.{length}

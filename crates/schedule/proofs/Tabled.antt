@@ -1,6 +1,6 @@
 -- What a table of sets says is what the conditions say.
 -- Assumes nothing.
-use Prim.Native.Nat.{ℕ, _-_, _<_, _≤_}
+use Prim.Native.Nat.{ℕ, _<_, _≤_}
 use mathlib.Core.Path.{_≡_, refl, _∙_, ap}
 use mathlib.Core.Bool.{Bool, true, false}
 use mathlib.Core.List.{List}

@@ -8,7 +8,7 @@ ghost use Rattle.rules.specs.Answer.{common, letters};
 ghost use Rattle.schedule.specs.Search.{testIn};
 
 // Whether the conditions of the set have a start in common.
-pub fn common_in(table: &[u32], count: u32, set: u32) -> bool
+fn common_in(table: &[u32], count: u32, set: u32) -> bool
     requires { ⌜ count ≤ length (now table) ⌝ }
     ensures { λ r. ⌜ r ≡ common (testIn (now (table .entry))) count set ⌝ }
 {

@@ -16,7 +16,7 @@ use plan::Plan;
 use rules::Outcome;
 
 // A candidate answered beside those placed.
-pub fn reply_to(header: Header, schedule: Schedule, candidate: Activity) -> Outcome
+fn reply_to(header: Header, schedule: Schedule, candidate: Activity) -> Outcome
     requires { ⌜ Ready header schedule candidate ⌝ }
     ensures { λ r. ⌜ r ≡ reply (headerView header) (scheduleView schedule) (activityView candidate) ⌝ }
 {
@@ -27,7 +27,7 @@ pub fn reply_to(header: Header, schedule: Schedule, candidate: Activity) -> Outc
 }
 
 // Those placed, and the candidate with them if it is answered as placed.
-pub fn with_outcome(schedule: Schedule, candidate: Activity, outcome: Outcome) -> Schedule
+fn with_outcome(schedule: Schedule, candidate: Activity, outcome: Outcome) -> Schedule
     requires { ⌜ Roomy schedule ⌝ }
     ensures { λ r. ⌜ Grown schedule candidate outcome r ⌝ }
 {
@@ -75,7 +75,7 @@ pub fn with_place(plan: Plan, k: usize, schedule: Schedule, answer: Outcome) -> 
 }
 
 // The schedule of the first k places.
-pub fn placed_before(plan: Plan, k: usize) -> Schedule
+fn placed_before(plan: Plan, k: usize) -> Schedule
     requires { ⌜ Placeable plan × (k ≤ plan .count) ⌝ }
     ensures { λ r. ⌜ PlacedTo plan k r ⌝ }
 {

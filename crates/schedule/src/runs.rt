@@ -2,7 +2,7 @@
 ghost use mathlib.Core.Path.{_≡_};
 ghost use mathlib.Core.Bool.{true, cond, not, _&&_};
 ghost use mathlib.Core.List.{map};
-ghost use Prim.Native.Nat.{_+_, _-_, _≤_, _<_};
+ghost use Prim.Native.Nat.{_-_, _≤_, _<_};
 ghost use lib.ListN.{length, set};
 ghost use Rattle.rules.specs.Runs.{runsFrom};
 ghost use Rattle.rules.specs.Calls.{sliceAfter};

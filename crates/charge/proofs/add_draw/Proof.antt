@@ -1,19 +1,20 @@
 -- `add_draw` meets its contract: the heater's ticks are raised, then its own.
 -- Assumes nothing.
 use native.Mathlib.Omega.{arith}
-use Rattle.charge.proofs.ChargeDraws.{raised-most, raised-own}
+use Rattle.placed.proofs.Raising.{raised-most}
+use Rattle.charge.proofs.ChargeDraws.{raised-own}
 use borrow.Author.Needs.{needs}
 use Rattle.charge.proofs.add_draw.Statement.{statement}
 use Rattle.charge.proofs.add_draw.Tie as tie
 
-raise-requires : tie.Need-raise-requires
-raise-requires c κs = (search needs, λ t. omega (arith, c .before .before .pre .1 t))
+raise-ticks-requires : tie.Need-raise-ticks-requires
+raise-ticks-requires c κs = (search needs, λ t. omega (arith, c .before .before .pre .1 t))
 
-raise-requires-2 : tie.Need-raise-requires-2
-raise-requires-2 c κs =
+raise-ticks-requires-2 : tie.Need-raise-ticks-requires-2
+raise-ticks-requires-2 c κs =
     let m = c .before .before .before in
     let s = m .before .before .before in
-    (omega (arith, m .raise .ensures .size), λ t. omega (arith, s .pre .1 t, raised-most _ _ _ _ _ (m .raise .ensures) t))
+    (omega (arith, m .raise-ticks .ensures .size), λ t. omega (arith, s .pre .1 t, raised-most _ _ _ _ _ (m .raise-ticks .ensures) t))
 
 same-length : tie.Need-same-length
 same-length c = search needs
@@ -22,7 +23,7 @@ returns : tie.Need-returns
 returns c =
     let n = c .before .before in
     let m = n .before .before .before .before in
-    raised-own _ _ _ _ (m .raise .ensures) (n .raise2 .ensures)
+    raised-own _ _ _ _ (m .raise-ticks .ensures) (n .raise-ticks2 .ensures)
 
 pub add-draw-spec : {M : Type 1} → statement M
-add-draw-spec = tie.close (tie.spec raise-requires raise-requires-2 same-length returns)
+add-draw-spec = tie.close (tie.spec raise-ticks-requires raise-ticks-requires-2 same-length returns)

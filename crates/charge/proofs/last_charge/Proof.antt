@@ -15,7 +15,8 @@ use mir.Facts.{toZ-ofZ}
 use Rattle.rules.specs.MeetsB.{charge}
 use Rattle.plan.specs.View.{headerView}
 use Rattle.placed.specs.View.{scheduleView}
-use Rattle.charge.proofs.ChargeDraws.{zeros, drawing, base-is, last-kept}
+use Rattle.placed.proofs.Lists.{zeros}
+use Rattle.charge.proofs.ChargeDraws.{drawing, base-is, last-kept}
 use Rattle.charge.proofs.last_charge.Statement.{statement}
 use Rattle.charge.proofs.last_charge.Tie as tie
 

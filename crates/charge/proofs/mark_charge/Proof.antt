@@ -2,7 +2,8 @@
 -- Assumes nothing.
 use mathlib.Core.Path.{refl, sym}
 use Rattle.placed.proofs.Marking.{same-marked}
-use Rattle.charge.proofs.ChargeDraws.{zeros, drawing, meets-is}
+use Rattle.placed.proofs.Lists.{zeros}
+use Rattle.charge.proofs.ChargeDraws.{drawing, meets-is}
 use borrow.Author.Needs.{needs}
 use Rattle.charge.proofs.mark_charge.Statement.{statement}
 use Rattle.charge.proofs.mark_charge.Tie as tie

@@ -32,6 +32,15 @@ ticks-holds c =
     let s = c .before .before .before in
     (s .pre .0 .0, tick-first _ _ _ _ (search needs) (c .c .given) (s .pre .1))
 
+-- left at the first tick under the floor
+same-length-2 : tie.Need-same-length-2 Inv-ticks μ-ticks
+same-length-2 c = c .before .before .ticks .inv .1 .ran .size
+
+returns-2 : tie.Need-returns-2 Inv-ticks μ-ticks
+returns-2 c =
+    let a = c .before .before in
+    ((a .ticks .inv .0, a .ticks .inv .1 .ran), λ _. sym (tick-floor _ _ _ _ _ _ _ (a .ticks .inv .1)) ∙ c .if1 .left)
+
 mul-wide : tie.Need-mul-wide Inv-ticks μ-ticks
 mul-wide c = omega arith
 
@@ -78,14 +87,6 @@ same-length c = c .before .ticks .inv .1 .ran .size
 
 returns : tie.Need-returns Inv-ticks μ-ticks
 returns c = ((c .before .ticks .inv .0, c .before .ticks .inv .1 .ran), λ l. absurd (omega arith))
-
-same-length-2 : tie.Need-same-length-2 Inv-ticks μ-ticks
-same-length-2 c = c .before .before .ticks .inv .1 .ran .size
-
-returns-2 : tie.Need-returns-2 Inv-ticks μ-ticks
-returns-2 c =
-    let a = c .before .before in
-    ((a .ticks .inv .0, a .ticks .inv .1 .ran), λ _. sym (tick-floor _ _ _ _ _ _ _ (a .ticks .inv .1)) ∙ c .if1 .left)
 
 pub run-ticks-spec : {M : Type 1} → statement M
 run-ticks-spec =

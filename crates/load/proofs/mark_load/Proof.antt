@@ -5,7 +5,6 @@ use Rattle.placed.proofs.Marking.{same-marked}
 use Rattle.load.proofs.Clear.{loaded-clear}
 use mathlib.Core.Path.{refl}
 use borrow.Author.Needs.{needs}
-use native.Mathlib.Omega.{arith}
 use Rattle.load.proofs.mark_load.Statement.{statement}
 use Rattle.load.proofs.mark_load.Tie as tie
 
@@ -20,8 +19,7 @@ slice-aggregate-mark-clear c = search needs
 
 mark-clear-requires : tie.Need-mark-clear-requires
 mark-clear-requires c κs = let s = c .before .before .before .before .before .before in
-    let loaded = c .before .before .before .fill-load .ensures in
-    ((s .pre .0 .2, s .pre .0 .3, loaded .size, λ t. omega (arith, loaded .small t, s .fits .weight)), s .pre .1)
+    ((s .pre .0 .2, s .pre .0 .3, c .before .before .before .fill-load .ensures .size), s .pre .1)
 
 same-length : tie.Need-same-length
 same-length c = search needs

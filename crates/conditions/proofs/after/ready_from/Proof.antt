@@ -1,7 +1,7 @@
 -- `ready_from` meets its contract: the invariant is the definition at the ids passed.
 -- Assumes nothing.
-use Prim.Native.Nat.{_-_, _≤_}
-use mathlib.Core.Path.{_≡_, sym}
+use Prim.Native.Nat.{_-_, _≤_, max}
+use mathlib.Core.Path.{_≡_, sym, _∙_}
 use Rattle.conditions.specs.Ended.{readyFrom}
 use Rattle.placed.specs.View.{scheduleView}
 use Rattle.conditions.proofs.Ended.{ready-more, ready-none}
@@ -38,7 +38,8 @@ loop-less : tie.Need-loop-less Inv-loop μ-loop
 loop-less c = omega arith
 
 loop-again : tie.Need-loop-again Inv-loop μ-loop
-loop-again c = (omega arith, rw ready-more (cc))
+loop-again c = let at = c .before .before .before .before in
+    (omega arith, rw ready-more (c .larger .ensures ∙ (λ j. max (c .before .first-end .ensures j) (at .loop .inv .1 j))))
 
 returns : tie.Need-returns Inv-loop μ-loop
 returns c = let e : c .before .before .args .t2 .«after_count» ≡ c .before .loop .i = omega arith in

@@ -27,7 +27,7 @@ shared-slice-read-clear-since : tie.Need-shared-slice-read-clear-since Inv-loop 
 shared-slice-read-clear-since c = omega arith
 
 clear-since-requires : tie.Need-clear-since-requires Inv-loop μ-loop
-clear-since-requires c κs = let at = c .before .before in (omega (arith, at .before .before .pre .2 (at .loop .t)), omega arith)
+clear-since-requires c κs = omega arith
 
 add-t : tie.Need-add-t Inv-loop μ-loop
 add-t c = omega arith

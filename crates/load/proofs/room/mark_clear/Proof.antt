@@ -24,7 +24,7 @@ sub-last : tie.Need-sub-last Inv-loop μ-loop
 sub-last c = omega arith
 
 clear-before-requires : tie.Need-clear-before-requires Inv-loop μ-loop
-clear-before-requires c κs = (omega (arith, c .before .before .pre .0 .2), omega arith, c .before .before .pre .0 .3)
+clear-before-requires c κs = (omega (arith, c .before .before .pre .0 .2), omega arith)
 
 loop-holds : tie.Need-loop-holds Inv-loop μ-loop
 loop-holds c = (omega arith, since-first _ _ _ (c .clear-before .ensures), none-marked _ _ _)
@@ -42,7 +42,7 @@ shared-slice-read-clear-since : tie.Need-shared-slice-read-clear-since Inv-loop 
 shared-slice-read-clear-since c = omega arith
 
 clear-since-requires : tie.Need-clear-since-requires Inv-loop μ-loop
-clear-since-requires c κs = let at = c .before .before in (omega (arith, start at .pre .0 .3 (at .loop .s + (start at .args .duration - 1))), omega arith)
+clear-since-requires c κs = omega arith
 
 raise-requires : tie.Need-raise-requires Inv-loop μ-loop
 raise-requires c κs = let at = c .before .before .before .before in room-at _ _ _ _ _ _ (c .before .before .before .loop-test .taken) (start at .pre .1) (at .loop .inv .2)

@@ -1,6 +1,5 @@
 -- `count_runs` meets its contract: the runs of the starts passed are counted.
 -- Assumes nothing.
-use Prim.Native.Nat.{_-_}
 use native.Mathlib.Omega.{arith}
 use Rattle.schedule.specs.Search.{meetsIn}
 use Rattle.schedule.proofs.RunSteps.{Counted, counted-none, counted-more, counted-all}

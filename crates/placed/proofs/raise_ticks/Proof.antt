@@ -1,38 +1,38 @@
--- `raise` meets its contract: the ticks from `from` to before t are raised.
+-- `raise_ticks` meets its contract: the ticks from `from` to before t are raised.
 -- Assumes nothing.
 use native.Mathlib.Omega.{arith}
 use Prim.Native.Nat.{_-_, _≤_}
 use mathlib.Core.Path.{_≡_}
-use Rattle.charge.specs.Charge.{RaisedBetween}
-use Rattle.charge.proofs.ChargeDraws.{raised-none, raised-more, raised-yet}
-use Rattle.charge.proofs.raise.Statement.{statement}
-use Rattle.charge.proofs.raise.Tie as tie
+use Rattle.placed.specs.Raised.{Raised}
+use Rattle.placed.proofs.Raising.{raised-none, raised-more, raised-yet}
+use Rattle.placed.proofs.raise_ticks.Statement.{statement}
+use Rattle.placed.proofs.raise_ticks.Tie as tie
 
 abbrev Inv-loop : tie.InvT-loop
-Inv-loop draws₀ from to by t₀ draws t = (from ≤ t) × (t ≤ to) × RaisedBetween from t by draws₀ draws
+Inv-loop sums₀ from to by t₀ sums t = (from ≤ t) × (t ≤ to) × Raised from t by sums₀ sums
 
 abbrev μ-loop : tie.MeasureT-loop
-μ-loop draws₀ from to by t₀ draws t = to - t
+μ-loop sums₀ from to by t₀ sums t = to - t
 
 loop-holds : tie.Need-loop-holds Inv-loop μ-loop
 loop-holds c = (omega arith, omega arith, raised-none _ _ _)
 
-mul-draws : tie.Need-mul-draws Inv-loop μ-loop
-mul-draws c = omega arith
+mul-sums : tie.Need-mul-sums Inv-loop μ-loop
+mul-sums c = omega arith
 
-slice-read-draws : tie.Need-slice-read-draws Inv-loop μ-loop
-slice-read-draws c = omega (arith, c .before .before .loop .inv .2 .size)
+slice-read-sums : tie.Need-slice-read-sums Inv-loop μ-loop
+slice-read-sums c = omega (arith, c .before .before .loop .inv .2 .size)
 
-add-draws : tie.Need-add-draws Inv-loop μ-loop
-add-draws c =
+add-sums : tie.Need-add-sums Inv-loop μ-loop
+add-sums c =
     let a = c .before .before in
     omega (arith, raised-yet _ _ _ _ _ (a .loop .inv .2), a .before .pre .1 (a .loop .t))
 
-mul-draws-2 : tie.Need-mul-draws-2 Inv-loop μ-loop
-mul-draws-2 c = omega arith
+mul-sums-2 : tie.Need-mul-sums-2 Inv-loop μ-loop
+mul-sums-2 c = omega arith
 
-slice-write-draws : tie.Need-slice-write-draws Inv-loop μ-loop
-slice-write-draws c = omega (arith, c .before .before .loop .inv .2 .size)
+slice-write-sums : tie.Need-slice-write-sums Inv-loop μ-loop
+slice-write-sums c = omega (arith, c .before .before .loop .inv .2 .size)
 
 add-t : tie.Need-add-t Inv-loop μ-loop
 add-t c = omega arith
@@ -52,18 +52,18 @@ returns c =
     let e : a .before .args .to ≡ a .loop .t = omega arith in
     rw e (a .loop .inv .2)
 
-pub raise-spec : {M : Type 1} → statement M
-raise-spec =
+pub raise-ticks-spec : {M : Type 1} → statement M
+raise-ticks-spec =
     tie.close
     (tie.spec
     Inv-loop
     μ-loop
     loop-holds
-    mul-draws
-    slice-read-draws
-    add-draws
-    mul-draws-2
-    slice-write-draws
+    mul-sums
+    slice-read-sums
+    add-sums
+    mul-sums-2
+    slice-write-sums
     add-t
     loop-less
     loop-again
