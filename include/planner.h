@@ -18,10 +18,10 @@
  * overlap; until the call returns, nobody else may write the plan, or read or write the slice. Neither may have more
  * than PTRDIFF_MAX bytes. No pointer is kept.
  *
- * The calls use no heap, keep nothing from one call to the next, and may run in several threads at once. Give the task
- * that calls PLANNER_STACK_MOST bytes of stack and its own need: the frames are fixed and no function calls itself, so
- * the plan makes no difference. These are measured and looked up, not proved: docs/INTEGRATION.md says what is proved
- * and what is trusted.
+ * The calls use no heap, keep nothing from one call to the next, and may run in several threads at once. A task that
+ * calls needs PLANNER_STACK_MOST bytes of stack beside its own need: the frames are fixed and no function calls itself,
+ * so the plan makes no difference. The stack is measured, and that there is no variable is seen in the object file;
+ * neither is proved. docs/INTEGRATION.md says what is proved and what is trusted.
  *
  * Bare x86-64 firmware must provide the System V AMD64 convention with its red zone (so interrupts need a stack of
  * their own), SSE2 switched on, its registers saved when tasks switch, and memcpy and memset. No more is needed. */
@@ -122,7 +122,7 @@ static inline uint32_t planner_refusal(uint64_t answer)
     return (uint32_t)(answer >> 32 & 0xff);
 }
 
-/* Of any call: the line that its refusal is about; 0 where that is no one line, or the call is answered. */
+/* Of any call: the line that its refusal is about; 0 where it is about no single line, or the call is answered. */
 static inline uint32_t planner_line(uint64_t answer)
 {
     return planner_refusal(answer) != 0 ? (uint32_t)answer : 0;

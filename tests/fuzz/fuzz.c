@@ -76,7 +76,7 @@ static void check_lent(const uint8_t *slice, size_t length, size_t written) {
     }
 }
 
-// Report into a slice of `room` bytes, of which the text is kept in `text`.
+// Report into a slice of `room` bytes, the report is kept in `text`.
 static struct answer report(const struct plan *plan, size_t room, uint8_t text[REPORT]) {
     uint8_t *slice = lend(room);
     struct answer answer = parts(plan, planner_report(plan->bytes, plan->length, slice, room));

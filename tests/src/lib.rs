@@ -24,7 +24,8 @@ mod faults;
 mod second;
 pub mod tally;
 
-// The stored corpus, and another planner.
+// The stored corpus, another planner, and what the programs' commands share.
+pub mod commands;
 pub mod compare;
 pub mod corpus;
 pub mod limits;

@@ -2,6 +2,7 @@
 
 use differential::calls::output;
 use differential::check::check;
+use differential::commands::{number, status};
 use differential::compare::{difference, found, run};
 use differential::corpus;
 use differential::full::{full, KINDS};
@@ -44,17 +45,7 @@ fn main() -> ExitCode {
         ["plan", seed] => print(Ok(generate(number(seed)).bytes)),
         _ => Err(USE.to_string()),
     };
-    match done {
-        Ok(()) => ExitCode::SUCCESS,
-        Err(said) => {
-            eprintln!("{said}");
-            ExitCode::FAILURE
-        }
-    }
-}
-
-fn number(text: &str) -> u64 {
-    text.parse().unwrap_or_else(|_| panic!("{text} isn't a number"))
+    status(done)
 }
 
 fn seeds(first: &str, count: &str) -> std::ops::Range<u64> {

@@ -1,4 +1,4 @@
-"""Writes the lines of `walk` in the proof of planner_starts anew. Run `rt fmt` after it.
+"""Writes the lines of `walk` in the proof of planner_starts anew, in `rt fmt`'s layout.
 
     python3 tools/walk/planner_starts.py
 """

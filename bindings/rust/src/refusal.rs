@@ -103,7 +103,7 @@ impl Display for Reason {
 pub struct Refusal {
     /// Why.
     pub reason: Reason,
-    /// The line of the plan that it is about, counted from 1; 0 where it is about no one line.
+    /// The line of the plan that it is about, counted from 1; 0 where it is about no single line.
     pub line: u32,
 }
 

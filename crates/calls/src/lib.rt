@@ -1,4 +1,4 @@
-// The planner's calls on a plan's bytes (document 01, Calls): the public library.
+// The planner's calls on a plan's bytes (document 01, Calls), for Rattle programs.
 ghost use mathlib.Core.Path.{_≡_};
 ghost use Prim.Native.Nat.{_<_, _≤_, min};
 ghost use lib.ListN.{length, take};

@@ -14,7 +14,7 @@ use borrow.Author.Tests.{leb-true, ltb-true, le-leb, lt-ltb, le-ltb}
 use Rattle.rules.proofs.Local.{bool-ext}
 use Rattle.placed.specs.Raised.{Raised}
 
--- a number or none
+-- a number, or 0 in its place, is at most what the number is at most
 pub cond-most : (b : Bool) (x y : ℕ) → x ≤ y → cond b x 0 ≤ y
 cond-most true x y h = h
 cond-most false x y h = omega arith
@@ -22,6 +22,7 @@ cond-most false x y h = omega arith
 abbrev within : ℕ → ℕ → ℕ → Bool
 within from to t = leb from t && ltb t to
 
+-- no tick is raised yet
 pub raised-none : (from by : ℕ) (l : List ℕ) → Raised from from by l l
 raised-none from by l = record { size = refl; at = λ t. go t (leb from t) refl }
   where
@@ -29,6 +30,7 @@ raised-none from by l = record { size = refl; at = λ t. go t (leb from t) refl 
     go t true e = rw (le-ltb t from (leb-true _ _ e)) (omega arith)
     go t false e = omega arith
 
+-- one tick more
 pub raised-more : (from t by : ℕ) (old new : List ℕ) → from ≤ t → t < length old → Raised from t by old new → Raised from (t + 1) by old (set new t (getD new t 0 + by))
 raised-more from t by old new k l r =
     record { size = length-set new t _ ∙ r .size; at = λ u. go u (ℕ-discrete u t) }

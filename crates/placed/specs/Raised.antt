@@ -1,4 +1,4 @@
--- Sums by tick, raised in the ticks of one activity.
+-- Sums by tick, raised in a range of ticks.
 use Prim.Native.Nat.{ℕ, _+_}
 use mathlib.Core.Path.{_≡_}
 use mathlib.Core.Bool.{cond, _&&_}

@@ -124,7 +124,7 @@ module _ (p : Plan) (F : WellFormed p) (answers : ℕ → Outcome) (R : RightAns
         decimal-length 9 (totalVolume ps) (omega (arith, R .whole .volume, F .header .volume)),
       ))
 
-  pub report-length : length (reportBy p answers) ≤ reportMost
+  report-length : length (reportBy p answers) ≤ reportMost
   report-length = let n = length (p .activities) in simp length-append (omega (arith, lines-length n (omega arith), end-length, F .few))
 
 -- ---- a call into a slice of `room` elements refuses, or fills it with `most` elements at most

@@ -77,24 +77,30 @@ unfolding outcomeIn lineIn
 refusal-outcome k n f h l =
     record {
       answer = rw (refusal-refusal k n h l, ne-eqb k 0 (λ e. omega arith), refusal-value k n h l);
+      refusal = refusal-refusal k n h l;
+      line = rw (refusal-refusal k n h l, ne-eqb k 0 (λ e. omega arith), refusal-value k n h l);
       unmarked = λ _. no-mark _ (refusal-bits k n h l);
       bits = omega (arith, refusal-bits k n h l);
     }
 
 placed-outcome : (s : ℕ) → s < 4294967296 → OutcomeUnpacked (full (1 ∷ s ∷ [])) (packed (full (1 ∷ s ∷ [])))
-unfolding outcomeIn startIn
+unfolding outcomeIn startIn lineIn
 placed-outcome s h =
     record {
       answer = rw (outcome-refusal 1 s (omega arith) h, outcome-mark 1 s (omega arith) h, outcome-value 1 s (omega arith) h);
+      refusal = outcome-refusal 1 s (omega arith) h;
+      line = rw (outcome-refusal 1 s (omega arith) h);
       unmarked = λ f. absurd (f (outcome-refusal 1 s (omega arith) h));
       bits = outcome-bits 1 s (omega arith) h;
     }
 
 refused-outcome : (m : ℕ) → m < 4294967296 → OutcomeUnpacked (full (0 ∷ m ∷ [])) (packed (full (0 ∷ m ∷ [])))
-unfolding outcomeIn conditionsIn
+unfolding outcomeIn conditionsIn lineIn
 refused-outcome m h =
     record {
       answer = rw (outcome-refusal 0 m (omega arith) h, outcome-mark 0 m (omega arith) h, outcome-value 0 m (omega arith) h);
+      refusal = outcome-refusal 0 m (omega arith) h;
+      line = rw (outcome-refusal 0 m (omega arith) h);
       unmarked = λ f. absurd (f (outcome-refusal 0 m (omega arith) h));
       bits = outcome-bits 0 m (omega arith) h;
     }
@@ -104,15 +110,19 @@ unfolding countIn lineIn writtenIn
 refusal-count k n f h l =
     record {
       answer = rw (refusal-refusal k n h l, ne-eqb k 0 (λ e. omega arith), refusal-value k n h l);
+      refusal = refusal-refusal k n h l;
+      line = rw (refusal-refusal k n h l, ne-eqb k 0 (λ e. omega arith), refusal-value k n h l);
       written = rw (refusal-refusal k n h l, ne-eqb k 0 (λ e. omega arith)) refl;
       bits = refusal-bits k n h l;
     }
 
 full-count : {A : Type 0} (xs : List A) → length xs < 4294967296 → CountUnpacked (record { terms = full (length xs ∷ []); written = xs }) (packed (full (length xs ∷ [])))
-unfolding countIn writtenIn
+unfolding countIn writtenIn lineIn
 full-count xs h =
     record {
       answer = rw (count-refusal (length xs) h, count-value (length xs) h);
+      refusal = count-refusal (length xs) h;
+      line = rw (count-refusal (length xs) h);
       written = rw (count-refusal (length xs) h, count-value (length xs) h) refl;
       bits = count-bits (length xs) h;
     }

@@ -1,4 +1,4 @@
--- What each exported function promises of its answer and of the slice lent to it, for the plan's bytes s and whatever else it is handed (01, Calls).
+-- What each exported function promises of its answer r and of the slice lent to it, which holds `lent` before the call and `after` after it, for the plan's bytes s and whatever else it is handed (01, Calls).
 use Prim.Native.Nat.{ℕ}
 use mathlib.Core.Path.{_≡_}
 use mathlib.Core.List.{List}
@@ -16,6 +16,7 @@ pub record Exported {A : Type 0} (f : Filled A) (lent : List A) (r : ℕ) (after
   pub answer : r ≡ packed (f .terms)
   pub slice : after ≡ sliceAfter (f .written) lent
 
+-- report
 abbrev pub ReportExported : List ℕ → List ℕ → ℕ → List ℕ → Type 0
 ReportExported s lent r after = Exported (reportCall s (length lent)) lent r after
 

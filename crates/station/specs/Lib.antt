@@ -2,5 +2,5 @@ pub mod Packing
 pub mod Exported
 pub mod Unpacking
 pub mod Promise
--- For the station's own functions.
+-- For the contracts of `columns` and `put_runs`.
 pub mod Columns

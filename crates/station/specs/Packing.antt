@@ -2,6 +2,8 @@
 --     bits 0 to 31      the value: the start of a placed activity, the set of conditions of a refused one, a count; of a refusal, its line
 --     bits 32 to 39     the refusal's number, 0 where there is none
 --     bit 40            1 where an activity is placed
+--     bits 41 to 63     0
+-- Bits 32 and 40 begin at 2^32 = 4294967296 and 2^40 = 1099511627776.
 use Prim.Native.Nat.{ℕ, _+_, _*_, _/_, _%_}
 use mathlib.Core.Bool.{cond}
 use mathlib.Core.List.{List, [], _∷_}
@@ -14,10 +16,12 @@ packedValues [] = 0
 packedValues (n ∷ []) = n
 packedValues (placed ∷ v ∷ _) = placed * 1099511627776 + v
 
+-- a refusal has no values, and an answer has the number and the line 0
 unfoldable pub packed : Terms → ℕ
 packed t = t .number * 4294967296 + t .line + packedValues (t .values)
 
 -- ---- unpacking, as include/planner.h does it
+-- (uint32_t)answer
 unfoldable pub valueIn : ℕ → ℕ
 valueIn x = x % 4294967296
 

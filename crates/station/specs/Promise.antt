@@ -1,4 +1,4 @@
--- Demand 3 (00) over what the library answers: r is returned, and a slice `lent` left as `after`, as the exported functions' contracts say (Exported).
+-- Demand 3 (00) over what the library answers: r is returned, and a slice `lent` left as `after`, as the exported functions' contracts say (Exported). Refusals 10 to 12 are in Unpacking: what r unpacks to is the answer of the call's definition.
 use Prim.Native.Nat.{ℕ, _<_, _≤_}
 use mathlib.Core.Path.{_≡_}
 use mathlib.Core.List.{List, [], _∷_}

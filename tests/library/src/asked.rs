@@ -1,6 +1,6 @@
 // The calls made on a file, with the scheduler's answers.
 
-use crate::comb;
+use crate::many_runs;
 use crate::raw::of_outcome;
 use crate::trial::{Answer, Asked, Call};
 use differential::calls::{outcome_in, report_of, starts_in};
@@ -48,7 +48,7 @@ pub struct Answers {
 // Reads a file and schedules it, once for all calls.
 pub fn answers(file: &Generated, random: &mut Random) -> Answers {
     match read(&file.bytes) {
-        Ok(plan) if file.kind == comb::KIND => at_last_place(&plan),
+        Ok(plan) if file.kind == many_runs::KIND => at_last_place(&plan),
         Ok(plan) => at_all_places(&plan, random),
         Err(refusal) => refused(refusal, random),
     }

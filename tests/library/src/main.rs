@@ -1,16 +1,17 @@
 // The planner's library against the unrelated scheduler, through its C functions.
 
 mod asked;
-mod comb;
 mod lent;
+mod many_runs;
 mod raw;
 mod tally;
 mod trial;
 
-use comb::{comb, TEETH};
+use differential::commands::{number, status};
 use differential::compare::found;
 use differential::generator::{fixed, generate, Generated};
 use differential::random::Random;
+use many_runs::{many_runs, SHORT};
 use std::path::Path;
 use std::process::ExitCode;
 use tally::Tally;
@@ -33,17 +34,7 @@ fn main() -> ExitCode {
         ["again", name, folder] => again(name, Path::new(folder)),
         _ => Err(USE.to_string()),
     };
-    match done {
-        Ok(()) => ExitCode::SUCCESS,
-        Err(said) => {
-            eprintln!("{said}");
-            ExitCode::FAILURE
-        }
-    }
-}
-
-fn number(text: &str) -> u64 {
-    text.parse().unwrap_or_else(|_| panic!("{text} isn't a number"))
+    status(done)
 }
 
 // The fixed files and those of the seeds; with many seeds, everything must have turned up.
@@ -69,9 +60,9 @@ fn at_work(file: &Generated, folder: &Path) -> std::io::Result<()> {
     std::fs::write(folder.join("at-work.plan"), &file.bytes)
 }
 
-// The combs, the cases worked by hand and the sweep of faults.
+// The plans with many runs, the cases worked by hand and the sweep of faults.
 fn not_from_seeds() -> impl Iterator<Item = Generated> {
-    TEETH.into_iter().map(comb).chain(fixed())
+    SHORT.into_iter().map(many_runs).chain(fixed())
 }
 
 // The calls on the file of a name.

@@ -7,7 +7,7 @@ use std::fmt;
 use std::ptr::{null, null_mut};
 
 // Bytes of a record: its first and its last start.
-pub const RECORD: usize = 8;
+const RECORD: usize = 8;
 
 #[derive(Clone, Copy)]
 pub enum Call {

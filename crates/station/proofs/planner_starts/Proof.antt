@@ -1,4 +1,4 @@
--- `planner_starts` meets its contract: a walk of its MIR, by hand. Two local arrays are made, lent to `columns`, had back, lent as `&` to `put_runs`, and freed. The caller's slice goes to `put_runs` for good.
+-- `planner_starts` meets its contract: a walk of its MIR. Two local arrays are made, lent to `columns`, had back, lent as `&` to `put_runs`, and freed. The caller's slice goes to `put_runs` for good.
 -- The lines of `walk` are written by tools/walk/planner_starts.py, which counts the positions. Assumes nothing.
 use mathlib.Core.Path.{_≡_, refl, sym, _∙_, ap, subst}
 use Prim.Native.Nat.{ℕ, zero, _<_, _≤_, _^_}

@@ -1,0 +1,22 @@
+// Plans with many runs: short activities on one unit at every second tick, and one more that meets them.
+
+use differential::generator::Generated;
+
+// Numbers of short activities; the last activity has one run more.
+pub const SHORT: [usize; 5] = [1, 2, 7, 20, 63];
+
+pub const KIND: &str = "many runs";
+
+pub fn many_runs(short: usize) -> Generated {
+    let mut text = format!("plan\t{}\t0\t100\t0\t100\t0\t0\t64\t1000\t1000\t0\n", 2 * short + 2);
+    for place in 0..short {
+        let tick = 2 * place + 1;
+        text += &activity(place, &format!("{tick}:{tick}"));
+    }
+    text += &activity(short, "-");
+    Generated { name: format!("many runs {short}"), kind: KIND, bytes: text.into_bytes(), aimed: None }
+}
+
+fn activity(place: usize, windows: &str) -> String {
+    format!("act\t{place}\t{place}\t1\t0\t{windows}\t-\t0\t-\t-\t0\t0\t0\t0\t0\n")
+}
