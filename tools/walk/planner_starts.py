@@ -18,14 +18,17 @@ ZEROS = '(replicate n 0)'
 
 
 class Array:
-    """A local array: its local, what its entries are called, and the variables that the walk binds for it."""
+    """A local array: its local, what its entries are called, and what the walk binds for it.
 
-    def __init__(self, local, name, lent, again, last, same_length):
+    The lifetime and the ghost name of its first loan, to `columns`, and of its second, to `put_runs`; its last list
+    after the first, and that this is as long."""
+
+    def __init__(self, local, name, first_loan, second_loan, last, same_length):
         self.local = local
         self.name = name
         self.at = place(int(local[1:]))
-        self.lifetime, self.ghost = lent
-        self.lifetime2, self.ghost2 = again
+        self.first_loan = first_loan
+        self.second_loan = second_loan
         self.last = last
         self.same_length = same_length
 
@@ -76,37 +79,41 @@ def new_lifetimes(w, *lifetimes):
         w.context = [lifetime] + w.context
 
 
-def lend_mut(w, array):
-    v, l = array.lifetime, array.at
-    w.turn('use1 W (later (MutLent n 𝓤 H A W %s (named 1) (%s ∷ []) %s n)) (lend-mut n 𝓤 H A W %s (named 1) (%s ∷ []) %s room-n length-zeros) $ await ! tt'
-           % (l, v, ZEROS, l, v, ZEROS), [array.name], 'lending')
-    w.binder('pick ! (λ %s.' % array.ghost)
+def lend(w, array, loan, lent, law, held, length):
+    """An array that holds a list of this length is lent by a law, for the loan's lifetime."""
+    lifetime, ghost = loan
+    slice_ = '%s (named 1) (%s ∷ []) %s' % (array.at, lifetime, held)
+    w.turn('use1 W (later (%s n 𝓤 H A W %s n)) (%s n 𝓤 H A W %s room-n %s) $ await ! tt' % (lent, slice_, law, slice_, length), [array.name], 'lending')
+    w.binder('pick ! (λ %s.' % ghost)
     w.cut('split', 'lending', array.name + '-own', array.name + '-lent')
+    w.line()
+
+
+def lend_mut(w, array):
+    lend(w, array, array.first_loan, 'MutLent', 'lend-mut', ZEROS, 'length-zeros')
+
+
+def lend_shr(w, array):
+    lend(w, array, array.second_loan, 'ShrLent', 'lend-shr', array.last, '(%s ∙ length-zeros)' % array.same_length)
+
+
+def end(w, array, lifetime, step, entries, back):
+    """A loan's lifetime ends, and a step turns the entries into what is back."""
+    w.turn('lft-end ! tt', [lifetime], 'dead')
+    w.turn(step + ' $ await ! tt', ['dead', array.name + '-lent'] + entries, back)
     w.line()
 
 
 def mut_back(w, array):
-    v, l = array.lifetime, array.at
-    w.turn('lft-end ! tt', [v], 'dead')
-    w.turn('use3 W (later (‵ (cells (memory.mem u32) %s %s 0))) (mut-back n 𝓤 H A W %s (%s ∷ []) %s %s) $ await ! tt'
-           % (array.last, l, l, v, array.ghost, array.last), ['dead', array.name + '-lent', array.name + '-last'], array.name)
-    w.line()
-
-
-def lend_shr(w, array):
-    v, l, last = array.lifetime2, array.at, array.last
-    w.turn('use1 W (later (ShrLent n 𝓤 H A W %s (named 1) (%s ∷ []) %s n)) (lend-shr n 𝓤 H A W %s (named 1) (%s ∷ []) %s room-n (%s ∙ length-zeros)) $ await ! tt'
-           % (l, v, last, l, v, last, array.same_length), [array.name], 'lending')
-    w.binder('pick ! (λ %s.' % array.ghost2)
-    w.cut('split', 'lending', array.name + '-own', array.name + '-lent')
-    w.line()
+    lifetime, ghost = array.first_loan
+    end(w, array, lifetime, 'use3 W (later (‵ (cells (memory.mem u32) %s %s 0))) (mut-back n 𝓤 H A W %s (%s ∷ []) %s %s)'
+        % (array.last, array.at, array.at, lifetime, ghost, array.last), [array.name + '-last'], array.name)
 
 
 def shr_back(w, array):
-    v, l = array.lifetime2, array.at
-    w.turn('lft-end ! tt', [v], 'dead')
-    w.turn('use2 W (later (‵ (froom (numbersTy n) %s 0))) (shr-back n 𝓤 H A W %s (%s ∷ []) %s) $ await ! tt' % (l, l, v, array.last), ['dead', array.name + '-lent'], array.local)
-    w.line()
+    lifetime = array.second_loan[0]
+    end(w, array, lifetime, 'use2 W (later (‵ (froom (numbersTy n) %s 0))) (shr-back n 𝓤 H A W %s (%s ∷ []) %s)'
+        % (array.at, array.at, lifetime, array.last), [], array.local)
 
 
 def call(w, contract, known, given, operands, result):

@@ -1,6 +1,6 @@
 -- Laws of the charge trial: what its steps give, how far a charge goes, and that its test is condition B.
 -- Assumes nothing.
-use Prim.Native.Nat.{ℕ, zero, suc, _+_, _-_, _≤_, _<_, _^_, min}
+use Prim.Native.Nat.{ℕ, zero, suc, _+_, _-_, _≤_, _<_, _^_}
 use mathlib.Core.Path.{_≡_, refl, sym, ap, _∙_, subst}
 use mathlib.Core.Logic.{⊎-elim}
 use mathlib.Core.Bool.{Bool, true, false, cond}
@@ -9,7 +9,7 @@ use native.Mathlib.Nat.{eq-or-lt-of-le, le-refl}
 use native.Mathlib.Decide.{decLt}
 use native.Mathlib.Numerals.{add-one}
 use native.Mathlib.Omega.{arith}
-use lib.IntN.{ℤ, pos, negsuc, _+ℤ_, _-ℤ_}
+use lib.IntN.{ℤ, pos, negsuc}
 use lib.ListN.{length, getD, set, length-set}
 use lib.Seq.{getD-set-same, getD-set-other}
 use lib.Signed.{leZ, mag, _≤ℤ_}
@@ -19,17 +19,13 @@ use mir.Facts.{toZ-pos, toZ-ofZ}
 use Rattle.rules.specs.Tests.{each}
 use Rattle.rules.specs.MeetsB.{smaller}
 use Rattle.rules.proofs.Tests.{each-all, each-at, last-or, and-left, and-right, both-ways}
-use Rattle.rules.proofs.Signed.{above, under, cond-by, add-parts, less-parts, le-yes, le-no, signed}
+use Rattle.rules.proofs.Level.{smaller-most}
+use Rattle.rules.proofs.Signed.{above, under, signed}
 use Rattle.plan.specs.declared.Header.{Header as HeaderStruct}
 use Rattle.placed.proofs.Lists.{each-fails}
 use Rattle.charge.specs.Charge.{chargeNext, chargeBy, keptBy, Ran}
 
 -- ---- signed numbers
--- one of the two parts is 0
-pub one-part : (z : ℤ) → above z ≡ above z - under z
-one-part (pos n) = omega arith
-one-part (negsuc n) = omega arith
-
 -- the size that a signed type bounds
 pub size-parts : (z : ℤ) → mag z ≡ (above z - under z) + (under z - above z - 1)
 size-parts (pos n) = omega arith
@@ -47,19 +43,10 @@ pub smaller-no : (a b : ℤ) → leZ a b ≡ false → smaller a b ≡ b
 unfolding smaller
 smaller-no a b e = ap (λ (t : Bool). cond t a b) e
 
-smaller-parts : (a b : ℤ) → above (smaller a b) + (under a + under b) ≡ min (above a + under b) (above b + under a) + under (smaller a b)
-unfolding smaller
-smaller-parts a b =
-    cond-by (λ z. above z + (under a + under b) ≡ min (above a + under b) (above b + under a) + under z) (leZ a b) a b (λ t. omega (arith, le-yes a b t)) (λ t. omega (arith, le-no a b t))
-
-next-parts : (capacity rate draw : ℕ) (c : ℤ) → above (chargeNext capacity rate draw c) + (under c + draw) ≡ min (capacity + under c + draw) (above c + rate) + under (chargeNext capacity rate draw c)
-unfolding chargeNext
-next-parts capacity rate draw c =
-    omega (arith, smaller-parts (pos capacity) (c +ℤ pos rate -ℤ pos draw), add-parts c (pos rate), less-parts (c +ℤ pos rate) draw)
-
 -- a charge is at most the capacity
 pub next-most : (capacity rate draw : ℕ) (c : ℤ) → chargeNext capacity rate draw c ≤ℤ pos capacity
-next-most capacity rate draw c = omega (signed, next-parts capacity rate draw c, one-part (chargeNext capacity rate draw c))
+unfolding chargeNext
+next-most capacity rate draw c = smaller-most _ _
 
 pub le-true : (a b : ℤ) → leZ a b ≡ true → a ≤ℤ b
 le-true a b e = record { le = rw e tt }

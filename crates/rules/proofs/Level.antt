@@ -28,6 +28,10 @@ unfolding smaller
 smaller-parts a b =
     cond-by (λ z. above z + (under a + under b) ≡ min (above a + under b) (above b + under a) + under z) (leZ a b) a b (λ t. omega (arith, le-yes a b t)) (λ t. omega (arith, le-no a b t))
 
+pub smaller-most : (a b : ℤ) → smaller a b ≤ℤ a
+unfolding smaller
+smaller-most a b = cond-by (λ z. z ≤ℤ a) (leZ a b) a b (λ t. omega signed) (λ t. omega (signed, le-no a b t))
+
 chargeStep : Header → ℕ → ℕ → ℤ → ℤ
 chargeStep h t d c = smaller (pos (h .capacity)) (c +ℤ pos (h .rate) -ℤ pos d)
 
@@ -51,6 +55,12 @@ charge-by-draw h less more f t = rw (charge-level h more t, charge-level h less 
 pub charge-lower : (h : Header) (placed : Schedule) (e : Entry) (t : ℕ) → charge h (e ∷ placed) t ≤ℤ charge h placed t
 unfolding drawn total
 charge-lower h placed e t = charge-by-draw h placed (e ∷ placed) (λ u. omega arith) t
+
+-- a charge is at most the capacity
+pub charge-most : (h : Header) (placed : Schedule) → h .first ≤ h .capacity → (t : ℕ) → charge h placed t ≤ℤ pos (h .capacity)
+unfolding charge
+charge-most h placed l zero = omega signed
+charge-most h placed l (suc t) = smaller-most _ _
 
 -- the other side: the amount arrives, with a stop at 0
 pub store-step : (rate d e x y : ℕ) → d ≤ e → y ≤ x → (y - rate) + d ≤ (x - rate) + e

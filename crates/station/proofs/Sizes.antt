@@ -8,13 +8,13 @@ use mathlib.Core.List.{List, [], _∷_}
 use native.Mathlib.Omega.{arith}
 use lib.Dec.{leb, ltb}
 use lib.IntN.{ℤ, pos, negsuc, natAbs}
-use lib.Signed.{leZ, _≤ℤ_}
+use lib.Signed.{_≤ℤ_}
 use lib.ListN.{length, length-append}
 use borrow.Author.Tests.{leb-false}
 use Rattle.rules.specs.Plan.{Header, Activity, Plan, Schedule, end, at}
 use Rattle.rules.specs.Lines.{behind, parted, lineOf}
 use Rattle.rules.specs.Conditions.{allConditions, has, conditionLetters, lettersFrom, lettersOf}
-use Rattle.rules.specs.MeetsB.{smaller, charge}
+use Rattle.rules.specs.MeetsB.{charge}
 use Rattle.rules.specs.MeetsV.{totalVolume}
 use Rattle.rules.specs.Outcomes.{added, activityAt}
 use Rattle.rules.specs.Reading.{Reading, accepted, refused, reading}
@@ -29,11 +29,12 @@ use Rattle.rules.specs.declared.Refusal.{Refusal}
 use Rattle.rules.proofs.Accepted.{refused-fault, accepted-formed}
 use Rattle.rules.proofs.Demand.{demand3}
 use Rattle.rules.proofs.Decimal.{decimal-length}
+use Rattle.rules.proofs.Level.{charge-most}
 use Rattle.rules.proofs.Order.{order-length}
 use Rattle.rules.proofs.Refusing.{reading-number}
 use Rattle.rules.proofs.SameRuns.{call-few}
 use Rattle.rules.proofs.Says.{either-way}
-use Rattle.rules.proofs.Signed.{cond-by, le-no, signed}
+use Rattle.rules.proofs.Signed.{signed}
 use Rattle.calls.proofs.Accepted.{each-formed}
 use Rattle.station.specs.Unpacking.{reportMost, runsMost}
 
@@ -88,15 +89,6 @@ placed-few : (p : Plan) (answers : ℕ → Outcome) (k : ℕ) → length (placed
 placed-few p answers zero = omega arith
 placed-few p answers (suc k) = omega (arith, added-few (activityAt p k) (placedBy p answers k) (answers k), placed-few p answers k)
 
-smaller-most : (a b : ℤ) → smaller a b ≤ℤ a
-unfolding smaller
-smaller-most a b = cond-by (λ z. z ≤ℤ a) (leZ a b) a b (λ y. omega signed) (λ n. omega (signed, le-no a b n))
-
-charge-most : (h : Header) (ps : Schedule) → HeaderFormed h → (t : ℕ) → charge h ps t ≤ℤ pos (h .capacity)
-unfolding charge
-charge-most h ps F zero = omega (signed, F .first)
-charge-most h ps F (suc t) = smaller-most _ _
-
 abs-most : (z : ℤ) (c : ℕ) → pos 0 ≤ℤ z → z ≤ℤ pos c → natAbs z ≤ c
 abs-most (pos n) c l h = omega signed
 abs-most (negsuc n) c l h = absurd (omega signed)
@@ -115,7 +107,7 @@ module _ (p : Plan) (F : WellFormed p) (answers : ℕ → Outcome) (R : RightAns
       let ps = placedBy p answers n in
       let last = charge (p .header) ps (p .header .horizon) in
       let few = placed-few p answers n in
-      let c = abs-most last (p .header .capacity) (omega (signed, R .whole .floor (p .header .horizon) (omega arith))) (charge-most (p .header) ps (F .header) (p .header .horizon)) in
+      let c = abs-most last (p .header .capacity) (omega (signed, R .whole .floor (p .header .horizon) (omega arith))) (charge-most (p .header) ps (F .header .first .1) (p .header .horizon)) in
       simp length-append (omega (
         arith,
         decimal-length 1 (length ps) (omega (arith, few, F .few)),
