@@ -22,21 +22,13 @@ use Rattle.station.specs.Columns.{ColumnsHeld, filled}
 use Rattle.station.proofs.Sizes.{AnswersAs, refuses, fills, starts-as}
 use Rattle.station.proofs.Unpacking.{count-of}
 
-module _ {A : Type 0} (most : ℕ) (call : ℕ → Filled A) where
-  written-few : AnswersAs most call → (room : ℕ) → length (call room .written) ≤ most
-  written-few (refuses k n h e) room = rw (e room) (omega arith)
-  written-few (fills xs h e) room =
-      either-way (ltb room (length xs))
-      (λ l. rw (e room, too-long room xs (ltb-true _ _ l)) (omega arith))
-      (λ l. rw (e room, fitting room xs (ltb-false _ _ l)) h)
-
-  -- room beyond what an answer can have changes nothing
-  room-beyond : AnswersAs most call → (room : ℕ) → call (min room most) ≡ call room
-  room-beyond (refuses k n h e) room = e _ ∙ sym (e room)
-  room-beyond (fills xs h e) room =
-      either-way (ltb room (length xs))
-      (λ l. let m = ltb-true _ _ l in e _ ∙ too-long _ xs (omega arith) ∙ sym (too-long room xs m) ∙ sym (e room))
-      (λ l. let m = ltb-false _ _ l in e _ ∙ fitting _ xs (omega arith) ∙ sym (fitting room xs m) ∙ sym (e room))
+-- room beyond what an answer can have changes nothing
+room-beyond : {A : Type 0} (most : ℕ) (call : ℕ → Filled A) → AnswersAs most call → (room : ℕ) → call (min room most) ≡ call room
+room-beyond most call (refuses k n h e) room = e _ ∙ sym (e room)
+room-beyond most call (fills xs h e) room =
+    either-way (ltb room (length xs))
+    (λ l. let m = ltb-true _ _ l in e _ ∙ too-long _ xs (omega arith) ∙ sym (too-long room xs m) ∙ sym (e room))
+    (λ l. let m = ltb-false _ _ l in e _ ∙ fitting _ xs (omega arith) ∙ sym (fitting room xs m) ∙ sym (e room))
 
 -- ---- two columns put together
 pairs : List ℕ → List ℕ → List Interval
@@ -83,14 +75,14 @@ column-held part rs lent front rest e = rw (e, append-assoc) (take-at (map part 
 pub columns-held : (s : List ℕ) (k m room held : ℕ) → held ≡ min room 2048 → (lf ll firsts lasts : List ℕ) → length lf ≡ 2048 → length ll ≡ 2048 → (answer : CountAnswer) → StartsCalled s k m (take held lf) (take held ll) answer firsts lasts
     → (r : ℕ) → r ≡ packed (countTerms answer) → ColumnsHeld (startsCall s k m room) r (firsts ++ drop held lf) (lasts ++ drop held ll)
 columns-held s k m room held h lf ll firsts lasts ef el answer C r e =
-    let A = starts-as s k m in
     let f = startsCall s k m room in
+    let beyond = room-beyond runsMost (startsCall s k m) (starts-as s k m) room in
     let n : min (length (take held lf)) (length (take held ll)) ≡ min room 2048 = omega (arith, length-take held lf, length-take held ll) in
-    let same = ap (startsCall s k m) n ∙ room-beyond runsMost (startsCall s k m) A room in
+    let same = ap (startsCall s k m) n ∙ beyond in
     let D = subst (λ (f : Filled Interval). ColumnsFilled f (take held lf) (take held ll) answer firsts lasts) same C in
     record {
       answer = e ∙ ap packed (D .answer);
-      few = written-few runsMost (startsCall s k m) A room;
+      few = omega (arith, starts-call-right s k m (min room runsMost) .fits, ap (λ g. length (g .written)) beyond);
       firstsHeld = column-held (λ run. run .first) (f .written) (take held lf) firsts (drop held lf) (D .firstsFilled);
       lastsHeld = column-held (λ run. run .last) (f .written) (take held ll) lasts (drop held ll) (D .lastsFilled);
     }
