@@ -1,15 +1,14 @@
 -- What the calls return for every byte string meets demand 3.
 -- Assumes nothing.
-use Prim.Native.Nat.{ℕ, _<_, _≤_}
+use Prim.Native.Nat.{ℕ}
 use mathlib.Core.Path.{_≡_, _∙_, ap}
 use mathlib.Core.List.{List, [], _∷_, map}
 use lib.ListN.{length}
-use borrow.Author.Tests.{le-leb, lt-leb, lt-ltb, le-ltb}
+use borrow.Author.Tests.{le-leb, lt-leb, lt-ltb}
 use Rattle.rules.specs.Plan.{Plan}
-use Rattle.rules.specs.Conditions.{allConditions}
 use Rattle.rules.specs.Reading.{accepted, refused, reading}
-use Rattle.rules.specs.Report.{answerTo, output}
-use Rattle.rules.specs.Calls.{full, outcomeTerms, countTerms, Filled, sliceAfter, refusing, filling, outcomeOf, outcomeCall, reportOf, reportCall, runs, startsOf, startsCall}
+use Rattle.rules.specs.Report.{noLine, answerTo, output}
+use Rattle.rules.specs.Calls.{full, outcomeTerms, countTerms, Filled, sliceAfter, refusing, filling, outcomeOf, outcomeCall, reportOf, reportCall, startsOf, startsCall}
 use Rattle.rules.specs.Demand.{Demand3}
 use Rattle.rules.specs.declared.Refusal.{Refusal}
 use Rattle.rules.specs.declared.Interval.{Interval}
@@ -17,10 +16,9 @@ use Rattle.rules.specs.declared.OutcomeAnswer.the-variants.{Answer, No}
 use Rattle.rules.specs.declared.CountAnswer.{CountAnswer}
 use Rattle.rules.specs.declared.CountAnswer.the-variants.{Count, No as CountNo}
 use Rattle.rules.proofs.Demand.{demand3}
-use Rattle.rules.proofs.Runs.{runs-right}
 use Rattle.rules.proofs.Terms.{outcome-terms-differ, count-terms-differ}
 use Rattle.calls.specs.Called.{SliceFilled, ColumnsFilled}
-use Rattle.calls.specs.Promise.{no, Answered, RunsAnswered, Refused, Promise}
+use Rattle.calls.specs.Promise.{callRefusal, ReportAnswered, Printed, RunsAnswered, StartsRefused, Answered, RefusedAs, Promise}
 use Rattle.calls.proofs.Running.{too-long, fitting}
 
 -- a slice filled with a result or left as it was, by what the call's definition says
@@ -40,6 +38,26 @@ columns-alone : (f : Filled Interval) (q : Refusal) (lf ll firsts lasts : List �
 unfolding countTerms sliceAfter
 columns-alone f q lf ll firsts lasts r F e = (count-terms-differ r (CountNo q) (F .answer ∙ ap (λ g. g .terms) e), F .firstsFilled ∙ ap (λ g. sliceAfter (map (λ run. run .first) (g .written)) lf) e, F .lastsFilled ∙ ap (λ g. sliceAfter (map (λ run. run .last) (g .written)) ll) e)
 
+report-answered : (s text : List ℕ) → ((room : ℕ) → reportCall s room ≡ filling room text) → ReportAnswered s text
+report-answered s text e =
+    record {
+      written = λ lent after r F h. filled-with _ text lent after r F (e (length lent) ∙ fitting _ _ h);
+      short = λ lent after r F h. left-alone _ (callRefusal 10) lent after r F (e (length lent) ∙ too-long _ _ h);
+    }
+
+printed-as : (s text : List ℕ) → output s ≡ text → Printed s text
+printed-as s text e lent after n F = (F .answer ∙ ap length e, F .slice ∙ ap (λ w. sliceAfter w lent) e)
+
+runs-answered : (s : List ℕ) (k m : ℕ) (rs : List Interval) → ((room : ℕ) → startsCall s k m room ≡ filling room rs) → RunsAnswered s k m rs
+runs-answered s k m rs e =
+    record {
+      written = λ lf ll firsts lasts r F h. columns-with _ rs lf ll firsts lasts r F (e _ ∙ fitting _ _ h);
+      short = λ lf ll firsts lasts r F h. columns-alone _ (callRefusal 10) lf ll firsts lasts r F (e _ ∙ too-long _ _ h);
+    }
+
+starts-refused : (s : List ℕ) (k m : ℕ) (q : Refusal) → ((room : ℕ) → startsCall s k m room ≡ refusing (q .number) (q .line)) → StartsRefused s k m q
+starts-refused s k m q e lf ll firsts lasts r F = columns-alone _ q lf ll firsts lasts r F (e _)
+
 answered : (s : List ℕ) (p : Plan) → reading s ≡ accepted p → Answered s p
 unfolding outcomeTerms outcomeCall outcomeOf startsCall startsOf
 answered s p e =
@@ -48,34 +66,23 @@ answered s p e =
       answers = D .answers;
       right = D .right;
       outcome = λ k r a h. outcome-terms-differ r (Answer (D .answers k)) (a ∙ D .called k h);
-      beyond = λ k r a h. outcome-terms-differ r (No (no 11)) (a ∙ rw (e, le-leb _ _ h));
-      report = λ lent after r F h. filled-with _ _ lent after r F (D .report (length lent) ∙ fitting _ _ h);
-      short = λ lent after r F h. left-alone _ (no 10) lent after r F (D .report (length lent) ∙ too-long _ _ h);
-      printed = λ lent after n F. (F .answer ∙ ap length (D .printed), F .slice ∙ ap (λ w. sliceAfter w lent) (D .printed));
-      noPlace = λ k m lf ll firsts lasts r F h. columns-alone _ (no 11) lf ll firsts lasts r F (rw (e, le-leb _ _ h));
-      noSet = λ k m lf ll firsts lasts r F h l. columns-alone _ (no 12) lf ll firsts lasts r F (rw (e, lt-leb _ _ h, lt-ltb _ _ l));
+      beyond = λ k r a h. outcome-terms-differ r (No (callRefusal 11)) (a ∙ rw (e, le-leb _ _ h));
+      report = report-answered s _ (D .report);
+      printed = printed-as s _ (D .printed);
+      runs = λ k m h l. let R = D .runs k m h l in (R .0, R .1, runs-answered s k m (R .0) (R .2));
+      noPlace = λ k m h. starts-refused s k m (callRefusal 11) (λ room. rw (e, le-leb _ _ h));
+      noSet = λ k m h l. starts-refused s k m (callRefusal 12) (λ room. rw (e, lt-leb _ _ h, lt-ltb _ _ l));
     }
 
-runs-answered : (s : List ℕ) (p : Plan) → reading s ≡ accepted p → (k m : ℕ) → k < length (p .activities) → m ≤ allConditions → RunsAnswered s p k m
-unfolding startsCall startsOf runs
-runs-answered s p e k m h l =
-    let E : (room : ℕ) → startsCall s k m room ≡ filling room (runs p k m) = λ room. rw (e, lt-leb _ _ h, le-ltb _ _ l) in
-    record {
-      runs = runs p k m;
-      right = runs-right _ _;
-      counted = λ lf ll firsts lasts r F g. columns-with _ _ lf ll firsts lasts r F (E _ ∙ fitting _ _ g);
-      short = λ lf ll firsts lasts r F g. columns-alone _ (no 10) lf ll firsts lasts r F (E _ ∙ too-long _ _ g);
-    }
-
-refused-all : (s : List ℕ) (q : Refusal) → reading s ≡ refused q → Refused s q
+refused-all : (s : List ℕ) (q : Refusal) → reading s ≡ refused q → RefusedAs s q
 unfolding outcomeTerms outcomeCall outcomeOf reportCall reportOf startsCall startsOf output answerTo
 refused-all s q e =
     record {
       outcome = λ k r a. outcome-terms-differ r (No q) (a ∙ rw e);
       report = λ lent after r F. left-alone _ q lent after r F (rw e);
-      starts = λ k m lf ll firsts lasts r F. columns-alone _ q lf ll firsts lasts r F (rw e);
-      printed = λ lent after n F. (F .answer ∙ rw e, F .slice ∙ rw e);
+      starts = λ k m. starts-refused s k m q (λ room. rw e);
+      printed = printed-as s (noLine q) (rw e);
     }
 
 pub promise : (s : List ℕ) → Promise s
-promise s = record { accepted-as = answered s; runs-of = runs-answered s; refused-as = refused-all s }
+promise s = record { accepted-as = answered s; refused-as = refused-all s }

@@ -6,20 +6,21 @@ use mathlib.Core.List.{List, [], _++_}
 use native.Mathlib.Omega.{arith}
 use native.Mathlib.Nat.{add-zero, not-suc-le-zero}
 use lib.ListN.{length, getD}
-use borrow.Author.Tests.{lt-leb}
+use borrow.Author.Tests.{lt-leb, le-ltb}
 use Rattle.rules.specs.Plan.{Header, Activity, Plan, Schedule, end as ends}
 use Rattle.rules.specs.Lines.{lines}
 use Rattle.rules.specs.Outcomes.{reply, added, activityAt, placed, outcome, finished}
 use Rattle.rules.specs.Report.{outcomeLine, outcomeLines, endLine, report, answerTo, output}
-use Rattle.rules.specs.Calls.{outcomeOf, outcomeCall, reportOf, reportCall}
+use Rattle.rules.specs.Calls.{outcomeOf, outcomeCall, reportOf, reportCall, runs, startsOf, startsCall}
 use Rattle.rules.specs.WellFormed.{WellFormed, Reachable}
-use Rattle.rules.specs.Demand.{Right, nth, placedBy, linesBy, reportBy, DemandThree}
+use Rattle.rules.specs.Demand.{Right, nth, placedBy, linesBy, reportBy, RunsBy, DemandThree}
 use Rattle.rules.specs.declared.Outcome.{Outcome}
 use Rattle.rules.specs.declared.Outcome.the-variants.{Placed, Refused}
 use Rattle.rules.proofs.Answers.{replied}
 use Rattle.rules.specs.Kept.{Kept}
 use Rattle.rules.proofs.Kept.{none-kept, more-kept}
 use Rattle.rules.proofs.Limits.{limits}
+use Rattle.rules.proofs.Runs.{runs-right}
 use Rattle.rules.proofs.ReportLines.{line-of-place, lines-behind, lines-count, end-line}
 use Rattle.rules.proofs.Accepted.{accepted-formed}
 
@@ -86,6 +87,11 @@ module _ (p : Plan) where
   last-line =
       ap (λ i. getD (lines (outcomeLines p n ++ end)) i []) (sym (add-zero n)) ∙ lines-behind p n 0 end ∙ ap (λ ls. getD ls 0 []) (end-line (p .header) n (finished p))
 
+-- the runs of a place are those beside what the outcomes place
+runs-by : (p : Plan) (k m : ℕ) → RunsBy p (outcome p) k m (runs p k m)
+unfolding runs
+runs-by p k m = rw (← by-outcomes p k) (runs-right _ _)
+
 pub demand3 : DemandThree
 unfolding finished outcome
 demand3 s p e =
@@ -104,4 +110,5 @@ demand3 s p e =
       called = λ k h. unfold outcomeCall outcomeOf in (rw (e, lt-leb _ _ h));
       report = λ room. unfold reportCall reportOf in (rw (e, ← report-by p));
       printed = unfold output answerTo in (rw (e, ← report-by p));
+      runs = λ k m h l. (runs p k m, runs-by p k m, λ room. unfold startsCall startsOf in (rw (e, lt-leb _ _ h, le-ltb _ _ l)));
     }

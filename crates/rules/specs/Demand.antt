@@ -16,12 +16,14 @@ use Rattle.rules.specs.MeetsU.{share}
 use Rattle.rules.specs.MeetsS.{standing}
 use Rattle.rules.specs.MeetsB.{charge}
 use Rattle.rules.specs.MeetsV.{totalVolume}
-use Rattle.rules.specs.Conditions.{conditionCount, allConditions, meets, has}
-use Rattle.rules.specs.Outcomes.{distance, added, noActivity, activityAt}
+use Rattle.rules.specs.Conditions.{conditionCount, allConditions, meets, has, meetsSet}
+use Rattle.rules.specs.Outcomes.{starts, distance, added, noActivity, activityAt}
+use Rattle.rules.specs.RunsRight.{RunsRight}
 use Rattle.rules.specs.Report.{outcomeLine, endLine, output}
-use Rattle.rules.specs.Calls.{full, outcomeValues, outcomeCall, filling, reportCall}
+use Rattle.rules.specs.Calls.{full, outcomeValues, outcomeCall, filling, reportCall, startsCall}
 use Rattle.rules.specs.declared.Outcome.{Outcome}
 use Rattle.rules.specs.declared.Outcome.the-variants.{Placed, Refused}
+use Rattle.rules.specs.declared.Interval.{Interval}
 
 -- s is a start of a in the plan: s + d is at most T
 abbrev pub Start : Header → Activity → ℕ → Type 0
@@ -102,6 +104,10 @@ pub record RightAnswers (p : Plan) (answers : ℕ → Outcome) : Type 0 where
   -- "The finished schedule breaks no limit of the plan at any tick"
   pub whole : Limits (p .header) (placedBy p answers (length (p .activities)))
 
+-- rs are the runs of the starts at place k that meet the set m beside those that the answers place at the places before it
+abbrev pub RunsBy : Plan → (ℕ → Outcome) → ℕ → ℕ → List Interval → Type 0
+RunsBy p answers k m rs = RunsRight (meetsSet (meets (p .header) (placedBy p answers k) (activityAt p k)) m) (starts (p .header) (activityAt p k)) rs
+
 pub record Demand3 (s : List ℕ) (p : Plan) : Type 0 where
   -- the outcome at each place
   pub answers : ℕ → Outcome
@@ -111,6 +117,8 @@ pub record Demand3 (s : List ℕ) (p : Plan) : Type 0 where
   -- every report written is the answers' own, by the report call and by the program
   pub report : (room : ℕ) → reportCall s room ≡ filling room (reportBy p answers)
   pub printed : output s ≡ reportBy p answers
+  -- every list of runs written by the starts call is of the starts beside these answers
+  pub runs : (k m : ℕ) → k < length (p .activities) → m ≤ allConditions → (rs : List Interval) × RunsBy p answers k m rs × ((room : ℕ) → startsCall s k m room ≡ filling room rs)
 
 -- demand 3: "For every plan that document 01 accepts"
 abbrev pub DemandThree : Type 0
