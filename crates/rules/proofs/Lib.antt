@@ -1,5 +1,6 @@
 pub mod Tests
 pub mod Every
+pub mod Lists
 pub mod Table
 pub mod Nearest
 pub mod Sets

@@ -1,6 +1,17 @@
-// The types that the planner's crates share, and the warm-up table.
+// The numbers and types that the planner's crates share, and the warm-up table.
 ghost use mathlib.Core.Path.{_≡_};
 ghost use Rattle.rules.specs.Warmup.{warmupAt};
+
+// The most activities that a plan has, and so the most places.
+pub const PLACES: usize = 64;
+
+// The most ticks that a plan has: the greatest horizon.
+pub const TICKS: usize = 4096;
+
+// How many conditions there are, and the set of them all.
+pub const CONDITIONS: u32 = 9;
+
+pub const ALL_CONDITIONS: u16 = 511;
 
 // How an activity is answered: placed with its start, or refused with its set of conditions.
 pub enum Outcome {

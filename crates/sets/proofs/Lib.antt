@@ -1,0 +1,4 @@
+pub mod MetSets
+pub mod Bits
+pub mod Marking
+pub mod Stage
