@@ -1,4 +1,4 @@
-pub mod View
-pub mod Ready
-pub mod Marked
+pub mod Tables
+pub mod Held
+pub mod Bounds
 pub mod Raised
