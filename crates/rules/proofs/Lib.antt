@@ -39,6 +39,8 @@ pub mod Accepted
 pub mod Acceptance
 pub mod ReportLines
 pub mod Demand
+pub mod SameAnswers
+pub mod Determined
 pub mod Ordered
 pub mod Inputs
 pub mod Edges
