@@ -32,6 +32,7 @@ pub mod FieldFacts
 pub mod KindFacts
 pub mod FieldSteps
 pub mod LineFacts
+pub mod FieldFaults
 pub mod ListAt
 pub mod ReadFacts
 pub mod PlaceFacts
