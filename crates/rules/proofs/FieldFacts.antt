@@ -8,7 +8,7 @@ use mathlib.Core.List.{List, [], _∷_, map, List·Memᴰ·not-nil}
 use native.Mathlib.Omega.{arith}
 use lib.Dec.{leb}
 use lib.ListN.{length, length-map}
-use borrow.Author.Tests.{leb-true, leb-false, le-leb}
+use borrow.Author.Tests.{leb-true, leb-false}
 use Rattle.rules.specs.Bytes.{bytes, same}
 use Rattle.rules.specs.Tests.{every}
 use Rattle.rules.specs.Number.{isNumber, valueOf}
@@ -17,7 +17,7 @@ use Rattle.rules.specs.Fields.{within, numberField, Kind, rising, items,
 use Rattle.rules.specs.Print.{listText}
 use Rattle.rules.specs.WellFormed.{Rises, ListFormed}
 use Rattle.rules.specs.Forms.{NumberFormed, NumberFault, no-number, below, above, Written, Ranged, ItemsFormed, no-items, all-items, ItemsFault, no-item, outside, no-rise, too-many}
-use Rattle.rules.proofs.Tests.{and-left, and-right, and-both, both-ways, every-mem}
+use Rattle.rules.proofs.Tests.{and-left, and-right, both-ways, every-mem}
 use Rattle.rules.proofs.Says.{by-test, one-fails, one-out, every-map, Says, said, check-says}
 use Rattle.rules.proofs.ListBack.{rises-test}
 use Rattle.rules.proofs.Join.{same-eq, eq-same, some-parts, parted-split}

@@ -4,21 +4,21 @@ use Prim.Native.Nat.{ℕ, suc}
 use mathlib.Core.Path.{_≡_, refl, sym, _∙_}
 use mathlib.Core.Logic.{_≢_}
 use mathlib.Core.Bool.{true, false, _&&_}
-use mathlib.Core.List.{List, [], map, List·Memᴰ}
+use mathlib.Core.List.{List, [], map}
 use native.Mathlib.Omega.{arith}
 use lib.Dec.{leb}
 use lib.ListN.{length}
-use borrow.Author.Tests.{leb-true, le-leb, lt-leb}
+use borrow.Author.Tests.{le-leb, lt-leb}
 use Rattle.rules.specs.Bytes.{bytes, same}
 use Rattle.rules.specs.Tests.{every}
-use Rattle.rules.specs.Number.{isNumber, valueOf}
+use Rattle.rules.specs.Number.{valueOf}
 use Rattle.rules.specs.Lines.{splitOn, fields, field}
 use Rattle.rules.specs.Plan.{Header}
 use Rattle.rules.specs.Fields.{Read, value, fault, within, numberField, Kind, numbers, windowKind, settingKind, rising, items, listField}
 use Rattle.rules.specs.HeaderLine.{headerOf}
 use Rattle.rules.specs.ActivityLine.{activityOf}
-use Rattle.rules.specs.Forms.{LineFormed, NumberFormed, NumberFault, no-number, below, above, Written, Ranged, ItemsFormed, no-items, all-items, ItemsFault, no-item, outside, no-rise, too-many, Form, number, numberList, windowList, settingList, FieldFormed, FieldFault, formAt, FieldsFault, planForms, actForms}
-use Rattle.rules.proofs.Tests.{and-left, and-right, and-both, both-ways, is-false, every-mem}
+use Rattle.rules.specs.Forms.{LineFormed, NumberFormed, NumberFault, no-number, below, above, Ranged, ItemsFormed, no-items, all-items, ItemsFault, no-item, outside, no-rise, too-many, Form, number, numberList, windowList, settingList, FieldFormed, FieldFault, formAt, FieldsFault, planForms, actForms}
+use Rattle.rules.proofs.Tests.{and-left, and-right, both-ways, is-false, every-mem}
 use Rattle.rules.proofs.Cases.{by-order}
 use Rattle.rules.proofs.Every.{every-all}
 use Rattle.rules.proofs.Says.{by-test, every-map, says-fault}

@@ -36,6 +36,7 @@ pub mod FieldFaults
 pub mod ListAt
 pub mod ReadFacts
 pub mod PlaceFacts
+pub mod FaultRefused
 pub mod Accepted
 pub mod Acceptance
 pub mod ReportLines
