@@ -27,10 +27,9 @@ use Rattle.rules.proofs.Signed.{lt-ltZ}
 use Rattle.rules.proofs.Join.{eq-same}
 use Rattle.rules.proofs.ListAt.{any-at, begins-map}
 use Rattle.rules.proofs.LineBack.{activity-back}
-use Rattle.rules.proofs.Ids.{none-misplaced}
 use Rattle.rules.proofs.Order.{order-length}
 use Rattle.rules.proofs.PlaceFacts.{after-told, first-told, line-number}
-use Rattle.rules.proofs.PlanBack.{lines-back, printed-back}
+use Rattle.rules.proofs.PlanBack.{lines-back, printed-back, left-to-judge}
 use Rattle.rules.proofs.ReadFacts.{formed-facts, each-formed}
 use Rattle.rules.proofs.FieldFaults.{header-fault, activity-fault}
 
@@ -68,17 +67,17 @@ activity-refused h xs n l rest g (same-id few a A e i k q) =
     let b = activity-back h a g A in
     rw (← e, b .form, lt-leb 64 (length xs) few, b .says, any-at noActivity (λ b. eqb (b .id) (a .id)) xs i k (eq-eqb _ (a .id) q))
 
--- lines that begin with those of h and xs
+-- the lines of h and xs, and then the rest
 begins-with : (h : Header) (xs : List Activity) (ls : List (List ℕ)) → suc (length xs) ≤ length ls → headerText h ≡ getD ls 0 [] → ((i : ℕ) → i < length xs → activityText (getD xs i noActivity) ≡ getD ls (suc i) []) → ls ≡ headerText h ∷ (map activityText xs ++ drop (suc (length xs)) ls)
 begins-with h xs [] n e f = absurd (omega arith)
 begins-with h xs (l ∷ ls) n e f = rw e (ap (λ (r : List (List ℕ)). l ∷ r) (begins-map [] activityText noActivity xs ls (omega arith) f))
 
 module _ (s : List ℕ) (h : Header) (xs : List Activity) (E : Begins s h xs) where
-  -- nothing in them is refused
+  -- where a file begins with their lines, reading comes to the line after them
   read-to : suc (length xs) ≤ length (lines s) → planLines (lines s) ≡ activityLines h xs (suc (suc (length xs))) (drop (suc (length xs)) (lines s))
   read-to n = ap planLines (begins-with h xs (lines s) n (E .headerLine) (E .activityLine)) ∙ lines-back h xs (E .header) (E .few) (each-formed E) (E .ids) (drop (suc (length xs)) (lines s))
 
-  -- so the next line is the first that is
+  -- so the fault of that line is the file's
   next-refused : {k : ℕ} → suc (length xs) < length (lines s) → ActivityFault h xs (lineAt s (suc (suc (length xs)))) k → planLines (lines s) ≡ no k (suc (suc (length xs)))
   next-refused n f =
       read-to (omega arith) ∙ rw (drop-cons (lines s) (suc (length xs)) [] n) (activity-refused h xs (suc (suc (length xs))) (lineAt s (suc (suc (length xs)))) _ (E .header) f)
@@ -101,13 +100,7 @@ file-refused s (no-earlier p i k id E e hi hk q named names other) =
     let line : lineNumber (activityAt p k .id) 2 (p .activities) ≡ 2 + i = line-number _ 2 i (p .activities) hi (ap (λ (a : Activity). a .id) q) (λ j l r. E .ids j i l hi (r ∙ sym (ap (λ (a : Activity). a .id) q))) in
     let two : 2 + i ≡ suc (suc i) = omega arith in
     rw (← e, printed-back (p .header) (p .activities) (E .header) (E .few) (each-formed E) (E .ids), first-misplaced p k id hk named names other, line, two)
-file-refused s (out-of-reach p W e l) =
-    rw (
-      ← e,
-      printed-back (p .header) (p .activities) (W .header) (W .few) (W .each) (W .ids),
-      none-misplaced (order (p .activities)) (λ k id l. W .after k id (rw (order-length (p .activities)) at l)),
-      lt-ltZ _ _ l,
-    )
+file-refused s (out-of-reach p W e l) = rw (← e, left-to-judge p W, lt-ltZ _ _ l)
 
 pub fault-refused : (s : List ℕ) (k n : ℕ) → Fault s k n → reading s ≡ no k n
 unfolding reading

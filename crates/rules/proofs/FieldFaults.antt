@@ -1,7 +1,7 @@
 -- A field has one fault, a right field has none, and of fields read left to right the first wrong one decides.
 -- Assumes nothing.
 use Prim.Native.Nat.{ℕ, suc}
-use mathlib.Core.Path.{_≡_, refl, sym, _∙_}
+use mathlib.Core.Path.{_≡_, refl, _∙_}
 use mathlib.Core.Logic.{_≢_}
 use mathlib.Core.Bool.{true, false, _&&_}
 use mathlib.Core.List.{List, [], map}
@@ -17,7 +17,7 @@ use Rattle.rules.specs.Plan.{Header}
 use Rattle.rules.specs.Fields.{Read, value, fault, within, numberField, Kind, numbers, windowKind, settingKind, rising, items, listField}
 use Rattle.rules.specs.HeaderLine.{headerOf}
 use Rattle.rules.specs.ActivityLine.{activityOf}
-use Rattle.rules.specs.Forms.{LineFormed, NumberFormed, NumberFault, no-number, below, above, Ranged, ItemsFormed, no-items, all-items, ItemsFault, no-item, outside, no-rise, too-many, Form, number, numberList, windowList, settingList, FieldFormed, FieldFault, formAt, FieldsFault, planForms, actForms}
+use Rattle.rules.specs.Forms.{LineFormed, NumberFormed, NumberFault, no-number, below, above, Written, Ranged, ItemsFormed, no-items, all-items, ItemsFault, no-item, outside, no-rise, too-many, Form, number, numberList, windowList, settingList, FieldFormed, FieldFault, formAt, FieldsFault, planForms, actForms}
 use Rattle.rules.proofs.Tests.{and-left, and-right, both-ways, is-false, every-mem}
 use Rattle.rules.proofs.Cases.{by-order}
 use Rattle.rules.proofs.Every.{every-all}
@@ -69,12 +69,23 @@ module _ {A : Type 0} (k : Kind A) (s : List ℕ) where
       (λ e. ([], refl))
       (λ e. (xs, rw (every-all (k .isItem) parts w, each-ranged r, rises-test (k .low) (k .high) 0 xs u, le-leb (length parts) (k .most) l)))
 
+  -- 8, where they don't rise or are too many
+  not-orderly : s ≢ bytes "-" → Written k s → Ranged k s → (rising (k .low) (k .high) 0 xs && leb (length parts) (k .most) ≡ true → ⊥) → listField k s ≡ fault 8
+  unfolding listField items
+  not-orderly d u r f = rw (not-dash d, every-all (k .isItem) parts u, each-ranged r, is-false (rising (k .low) (k .high) 0 xs && leb (length parts) (k .most)) f)
+
   list-fault : {n : ℕ} → ItemsFault k s n → listField k s ≡ fault n
   unfolding listField items
   list-fault (no-item d w m e) = rw (not-dash d, is-false (every (k .isItem) parts) (λ t. both-ways (every-mem (k .isItem) parts t m) e))
-  list-fault (outside d u w m e) = rw (not-dash d, every-all (k .isItem) parts u, is-false (every (k .inRange) xs) (λ t. both-ways (every-mem (λ w. k .inRange (k .itemOf w)) parts (sym (every-map (k .inRange) (k .itemOf) parts) ∙ t) m) e))
-  list-fault (no-rise d u r f) = rw (not-dash d, every-all (k .isItem) parts u, each-ranged r, is-false (rising (k .low) (k .high) 0 xs && leb (length parts) (k .most)) (λ t. f (rising-rises (k .low) (k .high) 0 xs (and-left _ _ t))))
-  list-fault (too-many d u r l) = rw (not-dash d, every-all (k .isItem) parts u, each-ranged r, is-false (rising (k .low) (k .high) 0 xs && leb (length parts) (k .most)) (λ t. both-ways (and-right (rising (k .low) (k .high) 0 xs) _ t) (lt-leb (length parts) (k .most) l)))
+  list-fault (outside d u w m e) =
+      rw (
+        not-dash d,
+        every-all (k .isItem) parts u,
+        every-map (k .inRange) (k .itemOf) parts,
+        is-false (every (λ w. k .inRange (k .itemOf w)) parts) (λ t. both-ways (every-mem (λ w. k .inRange (k .itemOf w)) parts t m) e),
+      )
+  list-fault (no-rise d u r f) = not-orderly d u r (λ t. f (rising-rises (k .low) (k .high) 0 xs (and-left _ _ t)))
+  list-fault (too-many d u r l) = not-orderly d u r (λ t. both-ways (and-right (rising (k .low) (k .high) 0 xs) _ t) (lt-leb (length parts) (k .most) l))
 
   list-right : {n : ℕ} → ItemsFormed k s → ItemsFault k s n → ⊥
   list-right f g = no-fault (list-value f .1) (list-fault g)

@@ -2,6 +2,7 @@
 -- Assumes nothing.
 use mathlib.Core.Path.{_≡_, refl, sym, ap, _∙_, subst}
 use mathlib.Core.List.{List, [], _∷_, _++_, map, append-nil, List·Memᴰ, List·Memᴰ·head, List·Memᴰ·tail, Memᴰ·append-right}
+use mathlib.Core.Option.{none}
 use Prim.Native.Nat.{ℕ, suc, _+_, _<_, _≤_}
 use native.Mathlib.Nat.{add-zero}
 use native.Mathlib.Omega.{arith}
@@ -41,22 +42,26 @@ module _ (h : Header) (xs : List Activity) (g : HeaderFormed h) (few : length xs
       let count : 2 + length xs ≡ suc (suc (length xs)) = omega arith in
       rw (b .form, b .says, ← count) (activities-back [] xs 2 more refl)
 
-  -- the lines of the printed form
+  -- the lines of the printed activities
   printed-lines : (rest : List Activity) → ((a : Activity) → List·Memᴰ a rest → ActivityFormed h a) → lines (activitiesText rest) ≡ map activityText rest
   unfolding activitiesText lines
   printed-lines [] f = refl
   printed-lines (a ∷ rest) f = activity-back h a g (f a (List·Memᴰ·head refl)) .next (activitiesText rest) ∙ ap (λ (ls : List (List ℕ)). activityText a ∷ ls) (printed-lines rest (λ b m. f b (List·Memᴰ·tail m)))
 
+  -- so the printed form reads back, line by line
   pub printed-back : planLines (lines (headerText h ++ activitiesText xs)) ≡ accepted (record { header = h; activities = xs })
   unfolding activityLines
   printed-back = rw (header-back h g .next (activitiesText xs), printed-lines xs each, ← append-nil (map activityText xs)) (lines-back [])
 
-pub read-printed : (p : Plan) → WellFormed p → Reachable p → reading (planText p) ≡ accepted p
-unfolding reading planText afterLines judged outOfReach activityAt
-read-printed p w r =
+-- the lines of a well-formed plan draw no refusal, nor does its `after`: 9 is left
+pub left-to-judge : (p : Plan) → WellFormed p → afterLines (planLines (lines (planText p))) ≡ judged p none
+unfolding planText afterLines activityAt
+left-to-judge p w =
     rw (
-      le-ltb 60000 (length (planText p)) (plan-length p w),
       printed-back (p .header) (p .activities) (w .header) (w .few) (w .each) (w .ids),
       none-misplaced (order (p .activities)) (λ k id l. w .after k id (rw (order-length (p .activities)) at l)),
-      le-ltZ _ _ r,
     )
+
+pub read-printed : (p : Plan) → WellFormed p → Reachable p → reading (planText p) ≡ accepted p
+unfolding reading judged outOfReach
+read-printed p w r = rw (le-ltb 60000 (length (planText p)) (plan-length p w), left-to-judge p w, le-ltZ _ _ r)

@@ -1,4 +1,4 @@
--- The facts determine the answer: one answer is right at each place, and a file is the text of one plan or has one fault. A reader of the facts need not look at any algorithm.
+-- The facts determine the answer: one answer is right at each place, and a file is the text of one plan or has one fault. Whoever reads the facts need not read Answer and Reading, which say how the answer and the plan are found.
 use Prim.Native.Nat.{ℕ, _<_, _≤_}
 use mathlib.Core.Path.{_≡_}
 use mathlib.Core.Logic.{_↔_, _⊎_}
