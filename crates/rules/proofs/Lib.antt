@@ -32,13 +32,17 @@ pub mod FieldFacts
 pub mod KindFacts
 pub mod FieldSteps
 pub mod LineFacts
+pub mod FieldFaults
 pub mod ListAt
 pub mod ReadFacts
 pub mod PlaceFacts
+pub mod FaultRefused
 pub mod Accepted
 pub mod Acceptance
 pub mod ReportLines
 pub mod Demand
+pub mod SameAnswers
+pub mod Determined
 pub mod Ordered
 pub mod Inputs
 pub mod Edges
