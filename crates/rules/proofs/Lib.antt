@@ -40,7 +40,4 @@ pub mod Acceptance
 pub mod ReportLines
 pub mod Demand
 pub mod Ordered
-pub mod Inputs
-pub mod Edges
-pub mod RefusalTable
-pub mod Examples
+pub mod Samples
