@@ -44,7 +44,4 @@ pub mod Demand
 pub mod SameAnswers
 pub mod Determined
 pub mod Ordered
-pub mod Inputs
-pub mod Edges
-pub mod RefusalTable
-pub mod Examples
+pub mod Samples
