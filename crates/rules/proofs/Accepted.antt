@@ -2,14 +2,11 @@
 -- Assumes nothing.
 use Prim.Native.Nat.{ℕ, suc, _+_, _≤_}
 use mathlib.Core.Path.{_≡_, refl, sym, _∙_, ap, subst}
-use mathlib.Core.Bool.{Bool, true, false, not}
 use mathlib.Core.List.{List, []}
 use mathlib.Core.Option.{Option, none, some}
 use native.Mathlib.Omega.{arith}
-use lib.Dec.{T, ltb}
-use lib.IntN.{ℤ}
+use lib.Dec.{ltb}
 use lib.ListN.{length, getD}
-use lib.Signed.{ltZ, _≤ℤ_, _<ℤ_, ltZ-yes, ltZ-no}
 use borrow.Author.Tests.{ltb-true, ltb-false}
 use Rattle.rules.specs.Tests.{anyOf}
 use Rattle.rules.specs.Plan.{Activity, Plan}
@@ -18,23 +15,15 @@ use Rattle.rules.specs.Order.{order}
 use Rattle.rules.specs.Outcomes.{noActivity, activityAt}
 use Rattle.rules.specs.Reading.{Reading, accepted, no, hasId, misplaced, lineNumber, outOfReach, judged, afterLines, reading}
 use Rattle.rules.specs.Print.{planText}
-use Rattle.rules.specs.WellFormed.{ActivityFormed, WellFormed, Reachable}
+use Rattle.rules.specs.WellFormed.{WellFormed, Reachable}
 use Rattle.rules.specs.Faults.{FileFault, no-earlier, out-of-reach, Fault, too-long, in-file}
+use Rattle.rules.specs.Determined.{TextOf}
+use Rattle.rules.proofs.Signed.{ltZ-true, ltZ-false}
 use Rattle.rules.proofs.Says.{by-test}
 use Rattle.rules.proofs.ListAt.{mem-at, at-mem}
 use Rattle.rules.proofs.PlaceFacts.{NamedAfter, Unnamed, AfterTold, after-told, order-mem, line-number}
 use Rattle.rules.proofs.Order.{order-length}
-use Rattle.rules.proofs.ReadFacts.{Tells, told, refusing, PlanRead, lines-tell}
-
--- what an accepted file is
-abbrev Right : List ℕ → Plan → Type 0
-Right s p = WellFormed p × Reachable p × (planText p ≡ s)
-
-below : {a b : ℤ} → ltZ a b ≡ true → a <ℤ b
-below e = ltZ-yes (subst T (sym e) tt)
-
-not-below : {a b : ℤ} → ltZ a b ≡ false → b ≤ℤ a
-not-below e = ltZ-no (subst (λ (t : Bool). T (not t)) (sym e) tt)
+use Rattle.rules.proofs.ReadFacts.{each-formed, Tells, told, refusing, PlanRead, lines-tell}
 
 module _ (s : List ℕ) (p : Plan) (R : PlanRead s p) where
   well-formed : NamedAfter [] (order (p .activities)) (length (order (p .activities))) → WellFormed p
@@ -43,7 +32,7 @@ module _ (s : List ℕ) (p : Plan) (R : PlanRead s p) where
       record {
         header = R .begins .header;
         few = R .begins .few;
-        each = λ a m. let r = mem-at noActivity m in subst (ActivityFormed (p .header)) (r .2) (R .begins .each (r .0) (r .1));
+        each = each-formed (R .begins);
         ids = R .begins .ids;
         after = λ k id h m. t k id (rw (order-length (p .activities)) h) m refl;
       }
@@ -58,47 +47,48 @@ module _ (s : List ℕ) (p : Plan) (R : PlanRead s p) where
       rw (line, two)
       (no-earlier p (r .0) (t .place) (t .id) (R .begins) (R .text) (r .1) (rw (order-length (p .activities)) at (t .inside)) (r .2) (λ k id h m. t .named k id h m refl) (t .names) (t .notBefore))
 
-  judged-tells : (o : Option Activity) → AfterTold [] (order (p .activities)) o → Tells (Right s) (FileFault s) (judged p o)
+  judged-tells : (o : Option Activity) → AfterTold [] (order (p .activities)) o → Tells (TextOf s) (FileFault s) (judged p o)
   unfolding judged outOfReach
   judged-tells (some a) t = refusing (misplaced-fault a t)
   judged-tells none t =
-      by-test (Tells (Right s) (FileFault s)) (outOfReach (p .header))
-      (λ e. refusing (out-of-reach p (well-formed t) (R .text) (below e)))
-      (λ e. told (well-formed t, not-below e, R .text))
+      by-test (Tells (TextOf s) (FileFault s)) (outOfReach (p .header))
+      (λ e. refusing (out-of-reach p (well-formed t) (R .text) (ltZ-true e)))
+      (λ e. told (well-formed t, ltZ-false e, R .text))
 
-file-tells : (s : List ℕ) {r : Reading} → Tells (PlanRead s) (FileFault s) r → Tells (Right s) (FileFault s) (afterLines r)
+file-tells : (s : List ℕ) {r : Reading} → Tells (PlanRead s) (FileFault s) r → Tells (TextOf s) (FileFault s) (afterLines r)
 unfolding afterLines
 file-tells s (told {p} R) = judged-tells s p R (misplaced [] (order (p .activities))) (after-told [] (order (p .activities)))
 file-tells s (refusing f) = refusing f
 
-short-tells : {s : List ℕ} {r : Reading} → length s ≤ 60000 → Tells (Right s) (FileFault s) r → Tells (Right s) (Fault s) r
+short-tells : {s : List ℕ} {r : Reading} → length s ≤ 60000 → Tells (TextOf s) (FileFault s) r → Tells (TextOf s) (Fault s) r
 short-tells n (told R) = told R
 short-tells n (refusing f) = refusing (in-file n f)
 
-reading-tells : (s : List ℕ) → Tells (Right s) (Fault s) (reading s)
+reading-tells : (s : List ℕ) → Tells (TextOf s) (Fault s) (reading s)
 unfolding reading
 reading-tells s =
-    by-test (Tells (Right s) (Fault s)) (ltb 60000 (length s))
+    by-test (Tells (TextOf s) (Fault s)) (ltb 60000 (length s))
     (λ e. refusing (too-long (ltb-true 60000 (length s) e)))
     (λ e. short-tells (ltb-false 60000 (length s) e) (file-tells s (lines-tell s (lines s) refl)))
 
-right-of : {s : List ℕ} {p : Plan} → Tells (Right s) (Fault s) (accepted p) → Right s p
-right-of (told r) = r
+text-of : {s : List ℕ} {p : Plan} → Tells (TextOf s) (Fault s) (accepted p) → TextOf s p
+text-of (told t) = t
 
-fault-of : {s : List ℕ} {k n : ℕ} → Tells (Right s) (Fault s) (no k n) → Fault s k n
+fault-of : {s : List ℕ} {k n : ℕ} → Tells (TextOf s) (Fault s) (no k n) → Fault s k n
 fault-of (refusing f) = f
 
 -- what is wrong in a refused file, and that what is checked before it is right
 pub refused-fault : (s : List ℕ) (k n : ℕ) → reading s ≡ no k n → Fault s k n
-refused-fault s k n e = fault-of (subst (Tells (Right s) (Fault s)) e (reading-tells s))
+refused-fault s k n e = fault-of (subst (Tells (TextOf s) (Fault s)) e (reading-tells s))
 
-right : (s : List ℕ) (p : Plan) → reading s ≡ accepted p → Right s p
-right s p e = right-of (subst (Tells (Right s) (Fault s)) e (reading-tells s))
+-- an accepted file is the text of its plan
+pub accepted-text : (s : List ℕ) (p : Plan) → reading s ≡ accepted p → TextOf s p
+accepted-text s p e = text-of (subst (Tells (TextOf s) (Fault s)) e (reading-tells s))
 
 -- what reading guarantees of an accepted plan
 pub accepted-formed : (s : List ℕ) (p : Plan) → reading s ≡ accepted p → WellFormed p × Reachable p
-accepted-formed s p e = let r = right s p e in (r .0, r .1)
+accepted-formed s p e = let t = accepted-text s p e in (t .0, t .1)
 
 -- print an accepted plan and its bytes come back
 pub accepted-printed : (s : List ℕ) (p : Plan) → reading s ≡ accepted p → planText p ≡ s
-accepted-printed s p e = right s p e .2
+accepted-printed s p e = accepted-text s p e .2

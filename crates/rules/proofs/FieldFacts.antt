@@ -8,7 +8,7 @@ use mathlib.Core.List.{List, [], _∷_, map, List·Memᴰ·not-nil}
 use native.Mathlib.Omega.{arith}
 use lib.Dec.{leb}
 use lib.ListN.{length, length-map}
-use borrow.Author.Tests.{leb-true, leb-false, le-leb}
+use borrow.Author.Tests.{leb-true, leb-false}
 use Rattle.rules.specs.Bytes.{bytes, same}
 use Rattle.rules.specs.Tests.{every}
 use Rattle.rules.specs.Number.{isNumber, valueOf}
@@ -17,8 +17,9 @@ use Rattle.rules.specs.Fields.{within, numberField, Kind, rising, items,
 use Rattle.rules.specs.Print.{listText}
 use Rattle.rules.specs.WellFormed.{Rises, ListFormed}
 use Rattle.rules.specs.Forms.{NumberFormed, NumberFault, no-number, below, above, Written, Ranged, ItemsFormed, no-items, all-items, ItemsFault, no-item, outside, no-rise, too-many}
-use Rattle.rules.proofs.Tests.{and-left, and-right, and-both, both-ways, every-mem}
+use Rattle.rules.proofs.Tests.{and-left, and-right, both-ways, every-mem}
 use Rattle.rules.proofs.Says.{by-test, one-fails, one-out, every-map, Says, said, check-says}
+use Rattle.rules.proofs.ListBack.{rises-test}
 use Rattle.rules.proofs.Join.{same-eq, eq-same, some-parts, parted-split}
 
 pub within-low : (lo hi x : ℕ) → within lo hi x ≡ true → lo ≤ x
@@ -43,18 +44,12 @@ number-says lo hi s =
     (λ e. check-says (within lo hi (valueOf s)) 4 (out-of-range lo hi s e)
     (λ f. said (refl, record { written = e; low = within-low lo hi (valueOf s) f; high = within-high lo hi (valueOf s) f })))
 
-rising-rises : {A : Type 0} (low high : A → ℕ) (least : ℕ) (xs : List A) → rising low high least xs ≡ true → Rises low high least xs
+pub rising-rises : {A : Type 0} (low high : A → ℕ) (least : ℕ) (xs : List A) → rising low high least xs ≡ true → Rises low high least xs
 unfolding rising
 rising-rises low high least [] e = tt
 rising-rises low high least (x ∷ xs) e =
     let front : (leb least (low x) && leb (low x) (high x)) ≡ true = and-left _ _ e in
     (leb-true _ _ (and-left _ _ front), leb-true _ _ (and-right (leb least (low x)) _ front), rising-rises low high (suc (high x)) xs (and-right (leb least (low x) && leb (low x) (high x)) _ e))
-
-rises-rising : {A : Type 0} (low high : A → ℕ) (least : ℕ) (xs : List A) → Rises low high least xs → rising low high least xs ≡ true
-unfolding rising
-rises-rising low high least [] r = refl
-rises-rising low high least (x ∷ xs) r =
-    and-both (and-both (le-leb _ _ (r .0)) (le-leb _ _ (r .1))) (rises-rising low high (suc (high x)) xs (r .2))
 
 -- a kind of list whose items are written as they were read
 module _ {A : Type 0} (k : Kind A) (write : A → List ℕ) (InRange : A → Type 0) (written : (w : List ℕ) → k .isItem w ≡ true → write (k .itemOf w) ≡ w) (ranged : (x : A) → k .inRange x ≡ true → InRange x) where
@@ -80,7 +75,7 @@ module _ {A : Type 0} (k : Kind A) (write : A → List ℕ) (InRange : A → Typ
       (λ f. let r = one-out (λ w. k .inRange (k .itemOf w)) parts (sym (every-map (k .inRange) (k .itemOf) parts) ∙ f) in outside d (each-item e) (r .0) (r .1) (r .2))
       (λ f. check-says (rising (k .low) (k .high) 0 xs && leb (length parts) (k .most)) 8
       (λ g. one-fails (rising (k .low) (k .high) 0 xs) (leb (length parts) (k .most)) g
-      (λ q. no-rise d (each-item e) (each-ranged f) (λ r. both-ways (rises-rising (k .low) (k .high) 0 xs r) q))
+      (λ q. no-rise d (each-item e) (each-ranged f) (λ r. both-ways (rises-test (k .low) (k .high) 0 xs r) q))
       (λ q. too-many d (each-item e) (each-ranged f) (leb-false (length parts) (k .most) q)))
       (λ g. let few : length parts ≤ k .most = leb-true (length parts) (k .most) (and-right (rising (k .low) (k .high) 0 xs) _ g) in
       let rises : Rises (k .low) (k .high) 0 xs = rising-rises (k .low) (k .high) 0 xs (and-left _ _ g) in

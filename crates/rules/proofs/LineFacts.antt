@@ -18,7 +18,7 @@ use Rattle.rules.proofs.Says.{Says, said}
 use Rattle.rules.proofs.NumberText.{number-text}
 use Rattle.rules.proofs.Join.{line-joined}
 use Rattle.rules.proofs.KindFacts.{counted, counted-of, numbers-say, windows-say, settings-say}
-use Rattle.rules.proofs.FieldSteps.{none-yet, field-step, number-step}
+use Rattle.rules.proofs.FieldSteps.{RightTo, none-yet, field-step, number-step}
 
 -- the line of its fields one by one
 whole-line : (n : ℕ) (l : List ℕ) → length (fields l) ≡ n → lastByte l ≡ 10 → lineOf (counted n (field (fields l))) ≡ l
@@ -32,6 +32,7 @@ as-read {s = s} f = number-text s (f .written)
 pub record HeaderSaid (l : List ℕ) (h : Header) : Type 0 where
   pub formed : HeaderFormed h
   pub text : headerText h ≡ l
+  pub fieldsRight : RightTo (planForms (fields l)) (fields l) 11
 
 pub header-says : (l : List ℕ) → LineFormed (bytes "plan") 12 l → Says (HeaderSaid l) (FieldsFault (planForms (fields l)) (fields l)) (headerOf (fields l))
 unfolding headerOf headerText
@@ -62,12 +63,14 @@ header-says l L =
         heater = heater .high;
       };
       text = rw (as-read horizon, as-read minute, as-read capacity, as-read floor, as-read first, as-read rate, as-read handover, as-read engines, as-read peak, as-read volume, as-read heater, ← L .firstWord) (whole-line 12 l (L .fieldCount) (L .ends));
+      fieldsRight = before;
     })))))))))))
 
 -- the activity a is what the line l says
 pub record ActivitySaid (h : Header) (l : List ℕ) (a : Activity) : Type 0 where
   pub formed : ActivityFormed h a
   pub text : activityText a ≡ l
+  pub fieldsRight : RightTo (actForms (h .horizon)) (fields l) 14
 
 pub activity-says : (h : Header) (l : List ℕ) → LineFormed (bytes "act") 15 l → Says (ActivitySaid h l) (FieldsFault (actForms (h .horizon)) (fields l)) (activityOf h (fields l))
 unfolding activityOf activityText
@@ -104,4 +107,5 @@ activity-says h l L =
         warm = warm .high;
       };
       text = rw (as-read id, as-read priority, as-read duration, as-read preferred, windows .0, after .0, units .0, needs .0, sets .0, as-read engines, as-read peak, as-read draw, as-read volume, as-read warm, ← L .firstWord) (whole-line 15 l (L .fieldCount) (L .ends));
+      fieldsRight = before;
     }))))))))))))))

@@ -1,15 +1,15 @@
--- Laws of lists by index: the rest from an index on, one element more, membership, and tests of any element.
+-- Laws of lists by index: the rest from an index on, one element more, membership, tests of any element, and a beginning.
 -- Assumes nothing.
-use Prim.Native.Nat.{ℕ, zero, suc, _<_}
-use mathlib.Core.Path.{_≡_, refl, sym}
+use Prim.Native.Nat.{ℕ, zero, suc, _<_, _≤_}
+use mathlib.Core.Path.{_≡_, refl, sym, ap}
 use mathlib.Core.Bool.{Bool, true, false, _||_}
-use mathlib.Core.List.{List, [], _∷_, _++_, nil≢cons, head-eq-of-cons-eq, tail-eq-of-cons-eq, List·Memᴰ, List·Memᴰ·head, List·Memᴰ·tail}
+use mathlib.Core.List.{List, [], _∷_, _++_, map, nil≢cons, head-eq-of-cons-eq, tail-eq-of-cons-eq, List·Memᴰ, List·Memᴰ·head, List·Memᴰ·tail}
 use native.Mathlib.Omega.{arith}
 use native.Mathlib.Nat.{not-suc-le-zero}
 use lib.ListN.{length, getD, drop, length-append, List·getD-append}
 use lib.Seq.{getD-append-seam}
 use Rattle.rules.specs.Tests.{anyOf}
-use Rattle.rules.proofs.Tests.{last-or, both-ways}
+use Rattle.rules.proofs.Tests.{last-or, both-ways, or-left, or-right}
 use Rattle.rules.proofs.Says.{one-holds}
 
 pub or-none : (a : Bool) {b : Bool} → a || b ≡ false → (a ≡ false) × (b ≡ false)
@@ -54,8 +54,20 @@ module _ {A : Type 0} (d : A) where
       (λ q. (0, omega arith, q))
       (λ f. let r = any-found p xs f in (suc (r .0), omega (arith, r .1), r .2))
 
+  pub any-at : (p : A → Bool) (xs : List A) (i : ℕ) → i < length xs → p (getD xs i d) ≡ true → anyOf p xs ≡ true
+  unfolding anyOf
+  any-at p [] i h e = absurd (not-suc-le-zero h)
+  any-at p (x ∷ xs) zero h e = or-left (anyOf p xs) e
+  any-at p (x ∷ xs) (suc i) h e = or-right (p x) (any-at p xs i (omega arith) e)
+
   pub any-none : (p : A → Bool) (xs : List A) → anyOf p xs ≡ false → (i : ℕ) → i < length xs → p (getD xs i d) ≡ false
   unfolding anyOf
   any-none p [] e i h = absurd (not-suc-le-zero h)
   any-none p (x ∷ xs) e zero h = or-none (p x) e .0
   any-none p (x ∷ xs) e (suc i) h = any-none p xs (or-none (p x) e .1) i (omega arith)
+
+  -- a list that begins with what f makes of the elements of xs
+  pub begins-map : {B : Type 0} (f : B → A) (b : B) (xs : List B) (l : List A) → length xs ≤ length l → ((i : ℕ) → i < length xs → f (getD xs i b) ≡ getD l i d) → l ≡ map f xs ++ drop (length xs) l
+  begins-map f b [] l h e = refl
+  begins-map f b (x ∷ xs) [] h e = absurd (omega arith)
+  begins-map f b (x ∷ xs) (y ∷ l) h e = rw (e 0 (omega arith)) (ap (λ (r : List A). y ∷ r) (begins-map f b xs l (omega arith) (λ i k. e (suc i) (omega arith))))

@@ -36,7 +36,7 @@ pub record Writes {A : Type 0} (k : Kind A) (InRange : A → Type 0) (write : A 
   pub high : (x : A) → InRange x → (c : ℕ) → c < 48 → free c (write x) ≡ true
 
 -- the test says what the facts say
-rises-test : {A : Type 0} (low high : A → ℕ) (least : ℕ) (xs : List A) → Rises low high least xs → rising low high least xs ≡ true
+pub rises-test : {A : Type 0} (low high : A → ℕ) (least : ℕ) (xs : List A) → Rises low high least xs → rising low high least xs ≡ true
 unfolding rising
 rises-test low high least [] r = refl
 rises-test low high least (x ∷ xs) r =

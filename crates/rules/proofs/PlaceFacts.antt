@@ -1,7 +1,7 @@
 -- What is told of `after` by place, what the order keeps, and the line of an activity.
 -- Assumes nothing.
 use Prim.Native.Nat.{ℕ, zero, suc, _+_, _<_}
-use mathlib.Core.Path.{_≡_, refl, sym, _∙_, subst}
+use mathlib.Core.Path.{_≡_, refl, sym, _∙_, ap, subst}
 use mathlib.Core.Logic.{_≢_}
 use mathlib.Core.Bool.{true, false}
 use mathlib.Core.List.{List, [], _∷_, List·Memᴰ}
@@ -18,6 +18,7 @@ use Rattle.rules.specs.OrderRight.{OrderRight}
 use Rattle.rules.specs.Outcomes.{noActivity}
 use Rattle.rules.specs.Reading.{hasId, misplaced, lineNumber}
 use Rattle.rules.proofs.Tests.{both-ways, every-mem}
+use Rattle.rules.proofs.Cases.{by-order}
 use Rattle.rules.proofs.Order.{order-right}
 use Rattle.rules.proofs.Says.{by-test, either-way, one-out}
 use Rattle.rules.proofs.ListAt.{or-none, mem-at, at-mem}
@@ -81,6 +82,21 @@ after-told earlier (a ∷ ys) =
     (λ e. told-next earlier a ys e (misplaced (a ∷ earlier) ys) (after-told (a ∷ earlier) ys))
     (λ e. let r = one-out (λ id. hasId id earlier) (a .after) e in
     record { place = 0; id = r .0; inside = omega arith; here = refl; named = λ k id h. absurd (not-suc-le-zero h); names = r .1; notEarlier = r .2; notBefore = λ j h. absurd (not-suc-le-zero h) })
+
+module _ (earlier ys : List Activity) where
+  -- where one names an id that none before has, not all are named
+  not-named : (a : Activity) (t : Unnamed earlier ys a) (n : ℕ) → t .place < n → NamedAfter earlier ys n → ⊥
+  not-named a t n h f = let r = f (t .place) (t .id) h (t .names) (t .notEarlier) in t .notBefore (r .0) (r .1) (r .2)
+
+  -- there is one first, and it is the one that is told
+  pub first-told : (a : Activity) → Unnamed earlier ys a → (o : Option Activity) → AfterTold earlier ys o → o ≡ some a
+  first-told a t none f = absurd (not-named a t (length ys) (t .inside) f)
+  first-told a t (some b) u =
+      by-order (t .place) (u .place)
+      (λ l. absurd (not-named a t (u .place) l (u .named)))
+      (λ l. by-order (u .place) (t .place)
+      (λ m. absurd (not-named b u (t .place) m (t .named)))
+      (λ m. let same : u .place ≡ t .place = omega arith in ap some (sym (u .here) ∙ ap (λ (i : ℕ). getD ys i noActivity) same ∙ t .here)))
 
 -- who stands in the order stands in the plan
 pub order-mem : {x : Activity} (xs : List Activity) → List·Memᴰ x (order xs) → List·Memᴰ x xs

@@ -4,7 +4,7 @@ use Prim.Native.Nat.{ℕ, suc, _<_, _≤_}
 use mathlib.Core.Path.{_≡_, refl, sym, _∙_, ap, subst}
 use mathlib.Core.Logic.{_≢_}
 use mathlib.Core.Bool.{true, false, _&&_}
-use mathlib.Core.List.{List, [], _∷_, _++_}
+use mathlib.Core.List.{List, [], _∷_, _++_, List·Memᴰ}
 use native.Mathlib.Nat.{lt-trans, not-suc-le-zero}
 use native.Mathlib.Omega.{arith}
 use lib.Dec.{leb, eqb}
@@ -25,7 +25,7 @@ use Rattle.rules.proofs.Tests.{and-left, and-right, both-ways}
 use Rattle.rules.proofs.Says.{by-test, by-check, one-fails, Says, said, faulted}
 use Rattle.rules.proofs.Join.{same-eq, eq-same, joined, joined-lines}
 use Rattle.rules.proofs.LineFacts.{HeaderSaid, header-says, ActivitySaid, activity-says}
-use Rattle.rules.proofs.ListAt.{rest-at, length-more, each-more, any-found, any-none}
+use Rattle.rules.proofs.ListAt.{rest-at, length-more, each-more, mem-at, any-found, any-none}
 
 -- a reading tells P of its plan, or F of its refusal
 pub data Tells (P : Plan → Type 0) (F : ℕ → ℕ → Type 0) : Reading → Type 0 where
@@ -38,7 +38,7 @@ unfolding onLine
 on-line n (said p) bad good = good _ p
 on-line n (faulted g) bad good = refusing (bad _ g)
 
-formed-facts : (word : List ℕ) (count : ℕ) (l : List ℕ) → formed word count l ≡ true → LineFormed word count l
+pub formed-facts : (word : List ℕ) (count : ℕ) (l : List ℕ) → formed word count l ≡ true → LineFormed word count l
 unfolding formed ended
 formed-facts word count l e =
     let front : (eqb (lastByte l) 10 && eqb (length (fields l)) count) ≡ true = and-left _ _ e in
@@ -56,6 +56,10 @@ formed-fault word count l e =
     (λ g. no-LF (eqb-false _ 10 g))
     (λ g. wrong-count (eqb-false _ count g)))
     (λ f. wrong-word (λ q. both-ways (eq-same _ word q) f))
+
+-- each of the activities that a file begins with is right
+pub each-formed : {s : List ℕ} {h : Header} {xs : List Activity} → Begins s h xs → (a : Activity) → List·Memᴰ a xs → ActivityFormed h a
+each-formed {h = h} E a m = let r = mem-at noActivity m in subst (ActivityFormed h) (r .2) (E .each (r .0) (r .1))
 
 -- the file is the text of a plan in whose lines nothing is wrong
 pub record PlanRead (s : List ℕ) (p : Plan) : Type 0 where

@@ -14,14 +14,10 @@ use Rattle.rules.specs.Outcomes.{starts, activityAt, placed}
 use Rattle.rules.specs.Calls.{runs}
 use Rattle.rules.specs.RunsRight.{runAt, InRun, RunsRight}
 use Rattle.rules.specs.declared.Interval.{Interval}
-use Rattle.rules.proofs.Tests.{both-ways, each-at}
+use Rattle.rules.proofs.Tests.{both-ways, is-false, each-at}
 use Rattle.rules.proofs.Cases.{by-order}
 use Rattle.rules.proofs.Sets.{meets-all}
 use Rattle.rules.proofs.Runs.{First, Runs, runs-told, runs-right}
-
-is-false : (b : Bool) → (b ≡ true → ⊥) → b ≡ false
-is-false true f = absurd (f refl)
-is-false false f = refl
 
 module _ (pass : ℕ → Bool) (n : ℕ) where
   -- what RunsRight says, of the starts from s on

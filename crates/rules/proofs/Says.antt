@@ -61,3 +61,8 @@ then-says (faulted g) bad good = faulted (bad _ g)
 -- a check with its fault, then what comes after it
 pub check-says : {A : Type 0} {P : A → Type 0} {F : ℕ → Type 0} (b : Bool) (j : ℕ) {m : Read A} → (b ≡ false → F j) → (b ≡ true → Says P F m) → Says P F (cond (not b) (fault j) m)
 check-says {P = P} {F = F} b j f g = by-check (Says P F) b (λ e. faulted (f e)) g
+
+-- a fault that excludes what a value says, and is the only one, is the answer
+pub says-fault : {A : Type 0} {P : A → Type 0} {F : ℕ → Type 0} {m : Read A} {k : ℕ} → Says P F m → ((a : A) → P a → ⊥) → ((j : ℕ) → F j → j ≡ k) → m ≡ fault k
+says-fault (said p) none one = absurd (none _ p)
+says-fault (faulted f) none one = ap fault (one _ f)

@@ -1,12 +1,12 @@
--- Sets of conditions as numbers: what leaving one out does, by computation over all sets; and what it is to meet a set.
-use Prim.Native.Nat.{ℕ, suc, _-_, _^_, _<_, _≤_}
+-- Sets of conditions as numbers: what leaving one out does and that the letters determine the set, by computation over all sets; and what it is to meet a set.
+use Prim.Native.Nat.{ℕ, zero, suc, _+_, _-_, _^_, _<_, _≤_}
 use mathlib.Core.Path.{_≡_, refl, sym, _∙_, ap}
 use mathlib.Core.Logic.{_≢_}
-use mathlib.Core.Bool.{Bool, true, false, _&&_, _||_, not, Bool·beq}
+use mathlib.Core.Bool.{Bool, true, false, cond, _&&_, _||_, not, Bool·beq}
 use native.Mathlib.Omega.{arith}
 use lib.Dec.{eqb}
 use lib.ListN.{length}
-use borrow.Author.Tests.{eq-eqb, ne-eqb}
+use borrow.Author.Tests.{eqb-true, eq-eqb, ne-eqb}
 use Rattle.rules.specs.Tests.{each}
 use Rattle.rules.specs.Conditions.{conditionCount, allConditions, conditions, conditionLetters, has, meetsSet}
 use Rattle.rules.proofs.Tests.{each-at, each-all, and-left, and-right, and-both, both-ways}
@@ -51,6 +51,27 @@ other-of m b c hm hb hc e f q = both-ways (and-right (has m c) _ (sym (left-out 
 
 pub to-kept : (m b c : ℕ) → m ≤ allConditions → b < conditionCount → c < conditionCount → has m b ≡ true → has m c ≡ true → c ≢ b → has (m - 2 ^ b) c ≡ true
 to-kept m b c hm hb hc e f q = left-out m b c hm hb hc e ∙ and-both f (ap not (ne-eqb c b q))
+
+-- the set of the letters below n that pass
+setOf : (ℕ → Bool) → ℕ → ℕ
+setOf p zero = 0
+setOf p (suc c) = cond (p c) (2 ^ c) 0 + setOf p c
+
+same-sets : (p q : ℕ → Bool) (n : ℕ) → ((c : ℕ) → c < n → p c ≡ q c) → setOf p n ≡ setOf q n
+unfolding setOf
+same-sets p q zero f = refl
+same-sets p q (suc c) f = rw (f c (omega arith), same-sets p q c (λ b h. f b (omega arith)))
+
+all-sets : each (λ m. eqb m (setOf (has m) conditionCount)) (suc allConditions) ≡ true
+unfolding each has setOf
+all-sets = refl
+
+set-of : (m : ℕ) → m ≤ allConditions → m ≡ setOf (has m) conditionCount
+set-of m h = eqb-true _ _ (each-at (λ m. eqb m (setOf (has m) conditionCount)) (suc allConditions) m all-sets (omega arith))
+
+-- two sets of the same letters are the same
+pub by-letters : (m l : ℕ) → m ≤ allConditions → l ≤ allConditions → ((c : ℕ) → c < conditionCount → has m c ≡ has l c) → m ≡ l
+by-letters m l hm hl f = set-of m hm ∙ same-sets (has m) (has l) conditionCount f ∙ sym (set-of l hl)
 
 -- what it is to meet a set
 pub meets-at : (test : ℕ → ℕ → Bool) (m s c : ℕ) → meetsSet test m s ≡ true → c < conditionCount → has m c ≡ true → test c s ≡ true

@@ -1,12 +1,14 @@
 -- Orders, sums and differences of signed whole numbers as facts of natural numbers, for `omega`.
 -- Assumes nothing.
 use Prim.Native.Nat.{ℕ, zero, suc, _+_, _-_, _≤_, _<_}
-use mathlib.Core.Path.{_≡_}
+use mathlib.Core.Path.{_≡_, sym, subst}
 use mathlib.Core.Bool.{Bool, true, false, not, cond}
 use native.Mathlib.Omega.{arith}
 use lib.Dec.{T, ltb, leb→le, le→leb, ltb→lt, nltb→le, nleb→lt}
 use lib.IntN.{ℤ, pos, negsuc, negℤ, subℕ, _+ℤ_, _-ℤ_}
-use lib.Signed.{leZ, _≤ℤ_}
+use lib.Signed.{leZ, ltZ, _≤ℤ_, _<ℤ_, ltZ-yes, ltZ-no, clashℤ}
+use borrow.Author.Tests.{not-true, not-false}
+use Rattle.rules.proofs.Tests.{is-false}
 
 -- z is `above z` less `under z`
 abbrev pub above : ℤ → ℕ
@@ -61,3 +63,16 @@ le-parts {a} {b} h = le-yes a b (h .le)
 
 -- `omega signed` reads and proves orders of signed whole numbers
 pub ruleset signed = (arith, le-parts, le-of)
+
+-- the test of the order says what the order says
+pub ltZ-true : {a b : ℤ} → ltZ a b ≡ true → a <ℤ b
+ltZ-true e = ltZ-yes (subst T (sym e) tt)
+
+pub ltZ-false : {a b : ℤ} → ltZ a b ≡ false → b ≤ℤ a
+ltZ-false e = ltZ-no (subst (λ (t : Bool). T (not t)) (sym e) tt)
+
+pub lt-ltZ : (a b : ℤ) → a <ℤ b → ltZ a b ≡ true
+lt-ltZ a b h = not-false (ltZ a b) (is-false (not (ltZ a b)) (λ e. clashℤ h (ltZ-false (not-true (ltZ a b) e))))
+
+pub le-ltZ : (a b : ℤ) → b ≤ℤ a → ltZ a b ≡ false
+le-ltZ a b h = is-false (ltZ a b) (λ e. clashℤ (ltZ-true e) h)

@@ -24,6 +24,10 @@ and-both e f = rw (e, f)
 pub both-ways : {b : Bool} → b ≡ true → b ≡ false → ⊥
 both-ways e f = true≢false (sym e ∙ f)
 
+pub is-false : (b : Bool) → (b ≡ true → ⊥) → b ≡ false
+is-false true f = absurd (f refl)
+is-false false f = refl
+
 -- below n + 1 is below n, or n
 pub last-or : (P : ℕ → Type 0) (n k : ℕ) → k < suc n → P n → (k < n → P k) → P k
 last-or P n k h at below = go (ltb k n) refl

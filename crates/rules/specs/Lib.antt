@@ -37,5 +37,6 @@ pub mod WellFormed
 pub mod Acceptance
 pub mod Forms
 pub mod Faults
+pub mod Determined
 -- For proofs alone.
 pub mod Open

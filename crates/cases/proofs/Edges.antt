@@ -6,15 +6,15 @@ use mathlib.Core.Bool.{Bool, true, false, _&&_}
 use mathlib.Core.List.{List, [], _∷_, _++_}
 use lib.Dec.{eqb}
 use lib.ListN.{getD, length}
 use Rattle.rules.specs.Open.{opened}
 use Rattle.rules.specs.Bytes.{same}
 use Rattle.rules.specs.Tests.{every}
 use Rattle.rules.specs.Warmup.{warmupEntry}
 use Rattle.rules.specs.Report.{output}
 use Rattle.rules.specs.Calls.{startsCall}
 use Rattle.rules.specs.declared.Interval.{Interval}
-use Rattle.rules.proofs.Inputs.{tabbed, lineP, lineA, worked}
+use Rattle.cases.proofs.Inputs.{tabbed, lineP, lineA, worked}
 use Rattle.rules.proofs.Tests.{every-at}
 
 -- the runs are one, from a to b
 abbrev pub oneRun : ℕ → ℕ → List Interval → Bool

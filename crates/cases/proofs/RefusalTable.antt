@@ -8,13 +8,13 @@ use native.Mathlib.Omega.{arith}
 use lib.Dec.{eqb}
 use lib.ListN.{length}
 use borrow.Author.Tests.{lt-ltb, eqb-true}
 use Rattle.rules.specs.Open.{opened}
 use Rattle.rules.specs.Tests.{every}
 use Rattle.rules.specs.Number.{decimal}
 use Rattle.rules.specs.Reading.{reading, no}
 use Rattle.rules.specs.Calls.{Terms, refusal, full, outcomeCall, reportCall, startsCall}
-use Rattle.rules.proofs.Inputs.{tabbed, lineP, lineA, worked}
+use Rattle.cases.proofs.Inputs.{tabbed, lineP, lineA, worked}
 use Rattle.rules.proofs.Tests.{every-mem, and-left, and-right}
 
 -- 1: any file over 60,000 bytes, whatever they are
 pub too-long : (s : List ℕ) → 60000 < length s → reading s ≡ no 1 0

@@ -1,0 +1,10 @@
+pub mod Inputs
+pub mod Rows
+pub mod Edges
+pub mod RefusalTable
+pub mod Charge
+pub mod State
+pub mod Limits
+pub mod Letters
+pub mod Lines
+pub mod Starts

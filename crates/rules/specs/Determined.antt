@@ -1,0 +1,43 @@
+-- The facts determine the answer: one answer is right at each place, and a file is the text of one plan or has one fault. Whoever reads the facts need not read Answer and Reading, which say how the answer and the plan are found.
+use Prim.Native.Nat.{ℕ, _<_, _≤_}
+use mathlib.Core.Path.{_≡_}
+use mathlib.Core.Logic.{_↔_, _⊎_}
+use mathlib.Core.List.{List}
+use lib.ListN.{length}
+use Rattle.rules.specs.Plan.{Header, Activity, Plan, Schedule}
+use Rattle.rules.specs.Reading.{accepted, no, reading}
+use Rattle.rules.specs.Print.{planText}
+use Rattle.rules.specs.WellFormed.{WellFormed, Reachable}
+use Rattle.rules.specs.Faults.{Fault}
+use Rattle.rules.specs.Demand.{Right, RightAnswers, placedBy, reportBy}
+use Rattle.rules.specs.declared.Outcome.{Outcome}
+
+-- two series of answers are the same at every place of the plan, and so are the schedules and the report that they give
+pub record SameAnswers (p : Plan) (answers others : ℕ → Outcome) : Type 0 where
+  pub answer : (k : ℕ) → k < length (p .activities) → answers k ≡ others k
+  pub schedule : (k : ℕ) → k ≤ length (p .activities) → placedBy p answers k ≡ placedBy p others k
+  pub report : reportBy p answers ≡ reportBy p others
+
+-- the file s is the text of the plan p, which is well formed and whose handover charge can be reached
+abbrev pub TextOf : List ℕ → Plan → Type 0
+TextOf s p = WellFormed p × Reachable p × (planText p ≡ s)
+
+-- what is read of a file is determined by the facts
+pub record FileDetermined (s : List ℕ) : Type 0 where
+  -- it is accepted as the plan p exactly when it is the text of p
+  pub accepts : (p : Plan) → (reading s ≡ accepted p) ↔ TextOf s p
+  -- it is refused with number k at line n exactly when it has that fault
+  pub refuses : (k n : ℕ) → (reading s ≡ no k n) ↔ Fault s k n
+  -- every file is a plan's text or has a fault, and none is both
+  pub either : ((p : Plan) × TextOf s p) ⊎ ((k : ℕ) × (n : ℕ) × Fault s k n)
+  pub not-both : (p : Plan) (k n : ℕ) → TextOf s p → Fault s k n → ⊥
+  -- no file is the text of two plans, nor has it two faults
+  pub plan : (p other : Plan) → TextOf s p → TextOf s other → p ≡ other
+  pub fault : (k n j m : ℕ) → Fault s k n → Fault s j m → (k ≡ j) × (n ≡ m)
+
+pub record Determined : Type 0 where
+  -- two right answers to one activity, beside the same schedule, are the same
+  pub answer : (h : Header) (before : Schedule) (a : Activity) (o other : Outcome) → Right h before a o → Right h before a other → o ≡ other
+  -- two series of answers to a plan, right at every place, are the same
+  pub answers : (p : Plan) (answers others : ℕ → Outcome) → RightAnswers p answers → RightAnswers p others → SameAnswers p answers others
+  pub file : (s : List ℕ) → FileDetermined s
