@@ -46,20 +46,16 @@ pub record SettingsAt (settings : List ℕ) (i : ℕ) (a : Activity) : Type 0 wh
 abbrev pub UnitsAt : List ℕ → ℕ → Activity → Type 0
 UnitsAt units i a = (u : ℕ) → u < 32 → unitAt units i u ≡ cond (anyOf (eqb u) (a .units)) 1 0
 
--- the four tables
-module _ (h : Header) (ticks amounts settings units : List ℕ) where
-  -- row i says the entry e
-  pub record EntryAt (i : ℕ) (e : Entry) : Type 0 where
-    pub ticked : TicksAt h ticks i e
-    pub amounted : AmountsAt amounts i (e .activity)
-    pub set : SettingsAt settings i (e .activity)
-    pub united : UnitsAt units i (e .activity)
+-- row i, of the candidate, says the activity a
+pub record CandidateAt (amounts settings units : List ℕ) (i : ℕ) (a : Activity) : Type 0 where
+  pub amounted : AmountsAt amounts i a
+  pub set : SettingsAt settings i a
+  pub united : UnitsAt units i a
 
-  -- row i, of the candidate, says the activity a
-  pub record CandidateAt (i : ℕ) (a : Activity) : Type 0 where
-    pub amounted : AmountsAt amounts i a
-    pub set : SettingsAt settings i a
-    pub united : UnitsAt units i a
+-- row i of the four tables says the entry e
+pub record EntryAt (h : Header) (ticks amounts settings units : List ℕ) (i : ℕ) (e : Entry) : Type 0 where
+  pub ticked : TicksAt h ticks i e
+  pub row : CandidateAt amounts settings units i (e .activity)
 
 -- what P says of the entries of a schedule by their places, of which there are n
 unfoldable pub Rows : (ℕ → Entry → Type 0) → ℕ → Schedule → Type 0

@@ -1,4 +1,5 @@
 pub mod Tables
+pub mod Written
 pub mod Held
 pub mod Bounds
 pub mod Raised

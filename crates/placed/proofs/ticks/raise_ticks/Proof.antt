@@ -5,8 +5,8 @@ use Prim.Native.Nat.{_-_, _≤_}
 use mathlib.Core.Path.{_≡_}
 use Rattle.placed.specs.Raised.{Raised}
 use Rattle.placed.proofs.Raising.{raised-none, raised-more, raised-yet}
-use Rattle.placed.proofs.raise_ticks.Statement.{statement}
-use Rattle.placed.proofs.raise_ticks.Tie as tie
+use Rattle.placed.proofs.ticks.raise_ticks.Statement.{statement}
+use Rattle.placed.proofs.ticks.raise_ticks.Tie as tie
 
 abbrev Inv-loop : tie.InvT-loop
 Inv-loop sums₀ from to by t₀ sums t = (from ≤ t) × (t ≤ to) × Raised from t by sums₀ sums

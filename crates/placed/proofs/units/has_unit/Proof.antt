@@ -1,0 +1,58 @@
+-- `has_unit` meets its contract: none of those passed is the unit.
+-- Assumes nothing.
+use Prim.Native.Nat.{ℕ, _-_, _<_, _≤_}
+use mathlib.Core.Path.{_≡_, sym}
+use mathlib.Core.Bool.{false}
+use lib.Dec.{eqb}
+use lib.ListN.{getD}
+use borrow.Author.Count.{below-none, below-more}
+use borrow.Author.Tests.{eq-eqb, ne-eqb}
+use native.Mathlib.Omega.{arith}
+use Rattle.rules.proofs.Lists.{any-at, any-none}
+use Rattle.placed.proofs.units.has_unit.Statement.{statement}
+use Rattle.placed.proofs.units.has_unit.Tie as tie
+
+abbrev Inv-loop : tie.InvT-loop
+Inv-loop units count unit i₀ i = (i ≤ count) × ((k : ℕ) → k < i → eqb unit (getD units k 0) ≡ false)
+
+abbrev μ-loop : tie.MeasureT-loop
+μ-loop units count unit i₀ i = count - i
+
+loop-holds : tie.Need-loop-holds Inv-loop μ-loop
+loop-holds c = (omega arith, below-none _)
+
+mul-if1 : tie.Need-mul-if1 Inv-loop μ-loop
+mul-if1 c = omega arith
+
+element-copy-out-if1 : tie.Need-element-copy-out-if1 Inv-loop μ-loop
+element-copy-out-if1 c = omega (arith, c .before .before .pre .0)
+
+returns : tie.Need-returns Inv-loop μ-loop
+returns c = let at = c .before .before .before in sym (any-at (eqb (at .before .args .unit)) 0 (at .before .args .units .now) (at .before .args .count) (at .loop .i) (omega arith) (omega (arith, at .before .pre .0, at .before .pre .1)) (eq-eqb _ _ (c .if1 .taken)))
+
+add-i : tie.Need-add-i Inv-loop μ-loop
+add-i c = omega arith
+
+loop-less : tie.Need-loop-less Inv-loop μ-loop
+loop-less c = omega arith
+
+loop-again : tie.Need-loop-again Inv-loop μ-loop
+loop-again c = (omega arith, below-more _ _ (c .before .before .before .loop .inv .1) (ne-eqb _ _ (c .if1 .left)))
+
+returns-2 : tie.Need-returns-2 Inv-loop μ-loop
+returns-2 c = let e : c .before .before .args .count ≡ c .before .loop .i = omega arith in sym (any-none (eqb (c .before .before .args .unit)) 0 (c .before .before .args .units .now) (c .before .before .args .count) (rw e (c .before .loop .inv .1)))
+
+pub has-unit-spec : {M : Type 1} → statement M
+has-unit-spec =
+    tie.close
+    (tie.spec
+    Inv-loop
+    μ-loop
+    loop-holds
+    mul-if1
+    element-copy-out-if1
+    returns
+    add-i
+    loop-less
+    loop-again
+    returns-2)
