@@ -12,8 +12,8 @@ use Rattle.rules.specs.Plan.{Window}
 use Rattle.rules.specs.Tests.{anyOf}
 use Rattle.rules.specs.MeetsW.{inside, allowed}
 use Rattle.rules.proofs.Tests.{and-both}
-use Rattle.plan.specs.View.{windowsView}
-use Rattle.placed.proofs.Lists.{any-at, any-none}
+use Rattle.activity.specs.View.{windowsView}
+use Rattle.rules.proofs.Lists.{any-at, any-none}
 
 abbrev pub window : ℕ → ℕ → Window
 window from to = record { from = from; to = to }

@@ -1,5 +1,3 @@
 pub mod Allowed
 pub mod Ended
 pub mod Volumes
-pub mod MetSets
-pub mod Picked

@@ -8,8 +8,11 @@ use native.Mathlib.Nat.{not-suc-le-zero}
 use native.Mathlib.Numerals.{add-one}
 use lib.ListN.{length}
 use Rattle.rules.specs.Plan.{Entry, Schedule}
+use Rattle.rules.specs.Tests.{total}
+use Rattle.rules.specs.MeetsV.{totalVolume}
 use Rattle.rules.proofs.Tests.{last-or}
-use Rattle.placed.specs.Held.{Rows}
+use Rattle.placed.specs.Tables.{volumeAt, volumesIn}
+use Rattle.placed.specs.Held.{AmountsAt, Rows}
 
 -- there are as many rows as entries
 pub rows-count : (P : ℕ → Entry → Type 0) (n : ℕ) (placed : Schedule) → Rows P n placed → length placed ≡ n
@@ -40,3 +43,14 @@ rows-more P n e placed p r = rw (add-one n) (p, r)
 pub rows-none : (P : ℕ → Entry → Type 0) → Rows P 0 []
 unfolding Rows
 rows-none P = tt
+
+-- ---- sums over the rows
+pub volumes-more : (amounts : List ℕ) (n : ℕ) → volumesIn amounts (n + 1) ≡ volumeAt amounts n + volumesIn amounts n
+unfolding volumesIn
+volumes-more amounts n = rw add-one
+
+-- the sum over the rows is that over the schedule
+pub volumes-are : (amounts : List ℕ) (n : ℕ) (placed : Schedule) → Rows (λ i e. AmountsAt amounts i (e .activity)) n placed → volumesIn amounts n ≡ totalVolume placed
+unfolding Rows volumesIn totalVolume total
+volumes-are amounts zero [] r = refl
+volumes-are amounts (suc n) (e ∷ placed) r = rw (r .0 .volume, volumes-are amounts n placed (r .1))

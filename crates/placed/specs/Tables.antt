@@ -1,5 +1,5 @@
 -- What is placed as the code holds it: the entry of each placed activity is a row in each of four tables of numbers, by place. The row behind them is the candidate's, which has no ticks yet.
-use Prim.Native.Nat.{ℕ, _+_, _*_}
+use Prim.Native.Nat.{ℕ, zero, suc, _+_, _*_}
 use mathlib.Core.List.{List}
 use lib.ListN.{getD}
 
@@ -28,6 +28,11 @@ drawAt amounts i = getD amounts (i * 4 + 2) 0
 
 abbrev pub volumeAt : List ℕ → ℕ → ℕ
 volumeAt amounts i = getD amounts (i * 4 + 3) 0
+
+-- the volumes of the first n rows, summed
+unfoldable pub volumesIn : List ℕ → ℕ → ℕ
+volumesIn amounts zero = 0
+volumesIn amounts (suc n) = volumeAt amounts n + volumesIn amounts n
 
 -- settings, sixteen to a row: what its sets give each of the eight variables; the variables of its four needs; their values. Values stand as codes: one more than the value, and 0 for none
 abbrev pub setAt : List ℕ → ℕ → ℕ → ℕ

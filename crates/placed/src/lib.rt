@@ -4,11 +4,14 @@
 //     settings  what its sets give each of the eight variables; the variables of its four needs; their values
 //     units     1 for each of the 32 units that it has, else 0
 // A value stands as one more than it, and 0 for none.
+mod amounts;
 mod row;
 mod settings;
 mod ticks;
 mod units;
 
+pub use amounts::total_volume;
+pub use amounts::wide;
 pub use row::put_candidate;
 pub use ticks::heater_from;
 pub use ticks::put_start;

@@ -6,10 +6,9 @@ use lib.Dec.{leb}
 use mathlib.Core.Path.{_≡_, refl}
 use Rattle.rules.specs.MeetsH.{meetsH}
 use Rattle.rules.specs.Warmup.{warmup, warmupAt}
-use Rattle.plan.specs.View.{headerView, activityView}
-use Rattle.placed.specs.Marked.{Marked}
-use Rattle.placed.proofs.Marking.{none-marked, same-marked}
-use Rattle.placed.proofs.Marks.{marked-more, room-at}
+use Rattle.activity.specs.View.{headerView, activityView}
+use Rattle.sets.specs.Table.{Marked}
+use Rattle.sets.proofs.Marking.{none-marked, marked-more, markable-at}
 use borrow.Author.Needs.{needs}
 use native.Mathlib.Omega.{arith}
 use Rattle.conditions.proofs.warmup.mark_warmup.Statement.{statement}
@@ -32,7 +31,7 @@ warmed-requires : tie.Need-warmed-requires Inv-loop μ-loop
 warmed-requires c κs = search needs
 
 raise-requires : tie.Need-raise-requires Inv-loop μ-loop
-raise-requires c κs = let at = c .before .before .before in room-at _ _ _ _ _ _ (c .before .before .loop-test .taken) (at .before .before .pre) (at .loop .inv .1)
+raise-requires c κs = let at = c .before .before .before in markable-at _ _ _ _ _ _ (c .before .before .loop-test .taken) (at .before .before .pre) (at .loop .inv .1)
 
 add-s : tie.Need-add-s Inv-loop μ-loop
 add-s c = omega arith

@@ -6,7 +6,7 @@ use mathlib.Core.Bool.{false}
 use mathlib.Core.Logic.{⊎-elim}
 use lib.ListN.{getD}
 use borrow.Author.Count.{below-none, below-more}
-use Rattle.plan.specs.View.{windowsView}
+use Rattle.activity.specs.View.{windowsView}
 use Rattle.rules.specs.MeetsW.{inside}
 use Rattle.conditions.proofs.Allowed.{window, all-allowed, window-has, window-early, window-late, windows-none}
 use native.Mathlib.Omega.{arith}

@@ -4,10 +4,9 @@ use Prim.Native.Nat.{_-_, _≤_}
 use mathlib.Core.Path.{_≡_}
 use lib.ListN.{length, take}
 use Rattle.rules.specs.MeetsW.{allowed}
-use Rattle.plan.specs.View.{windowsView, activityView}
-use Rattle.placed.specs.Marked.{Marked}
-use Rattle.placed.proofs.Marking.{none-marked}
-use Rattle.placed.proofs.Marks.{marked-more, room-at}
+use Rattle.activity.specs.View.{windowsView, activityView}
+use Rattle.sets.specs.Table.{Marked}
+use Rattle.sets.proofs.Marking.{none-marked, marked-more, markable-at}
 use borrow.Author.Needs.{needs, length-unmapped}
 use native.Mathlib.Omega.{arith}
 use Rattle.conditions.proofs.windows.mark_windows.Statement.{statement}
@@ -39,7 +38,7 @@ in-window-requires c κs =
     (omega arith, omega arith)
 
 raise-requires : tie.Need-raise-requires Inv-loop μ-loop
-raise-requires c κs = let at = c .before .before .before .before .before in room-at _ _ _ _ _ _ (c .before .before .before .before .loop-test .taken) (start at .pre .1) (at .loop .inv .1)
+raise-requires c κs = let at = c .before .before .before .before .before in markable-at _ _ _ _ _ _ (c .before .before .before .before .loop-test .taken) (start at .pre .1) (at .loop .inv .1)
 
 add-s : tie.Need-add-s Inv-loop μ-loop
 add-s c = omega arith
