@@ -13,10 +13,10 @@ use borrow.Author.Tests.{eqb-true, eqb-false, eq-eqb, ne-eqb}
 use Rattle.rules.specs.Conditions.{conditionCount, allConditions, conditions, conditionLetters, has, meetsSet}
 use Rattle.rules.proofs.Tests.{each-at, each-all, both-ways}
 
--- the number of conditions, of letters and of sets
-pub counted : (length conditions ≡ conditionCount) × (length conditionLetters ≡ conditionCount) × (suc allConditions ≡ 2 ^ conditionCount)
+-- the number of conditions and of letters
+pub counted : (length conditions ≡ conditionCount) × (length conditionLetters ≡ conditionCount)
 unfolding conditions conditionLetters
-counted = (refl, refl, refl)
+counted = (refl, refl)
 
 -- ---- a set has condition 0 where it is odd, and condition c + 1 where its half has c
 first : (m : ℕ) → has m 0 ≡ eqb (m % 2) 1
