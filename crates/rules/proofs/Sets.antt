@@ -37,7 +37,8 @@ even m e = let o : m % 2 ≢ 1 = eqb-false (m % 2) 1 (sym (first m) ∙ e) in om
 half : (m b : ℕ) → (m - 2 ^ suc b) / 2 ≡ m / 2 - 2 ^ b
 half m b = omega (arith, pow-succ' 2 b)
 
-power-in : (m b : ℕ) → has m b ≡ true → 2 ^ b ≤ m
+-- a set is at least the number of each condition that it has
+pub power-in : (m b : ℕ) → has m b ≡ true → 2 ^ b ≤ m
 power-in m zero e = omega (arith, odd m e)
 power-in m (suc b) e = omega (arith, power-in (m / 2) b (sym (later m b) ∙ e), pow-succ' 2 b)
 
