@@ -2,15 +2,15 @@
 use Prim.Native.Nat.{ℕ, zero, suc, _+_, _-_, _^_, _<_, _≤_}
 use mathlib.Core.Path.{_≡_, refl, sym, _∙_, ap}
 use mathlib.Core.Logic.{_≢_, _↔_}
-use mathlib.Core.Bool.{Bool, true, false, cond, and-true}
+use mathlib.Core.Bool.{Bool, true, false, cond}
 use native.Mathlib.Omega.{arith}
 use native.Mathlib.Nat.{not-suc-le-zero, add-zero, add-suc}
 use lib.Dec.{ltb}
-use borrow.Author.Tests.{eq-eqb, ne-eqb, ltb-true, ltb-false}
+use borrow.Author.Tests.{ltb-true, ltb-false}
 use Rattle.rules.specs.Conditions.{conditionCount, allConditions, has, meetsSet}
 use Rattle.rules.specs.Answer.{common, kept, letters}
 use Rattle.rules.proofs.Tests.{ever-at, ever-found, ever-none, last-or}
-use Rattle.rules.proofs.Sets.{left-out, kept-of, other-of, to-kept, meets-at, meets-all, all-of-them}
+use Rattle.rules.proofs.Sets.{left-out, others, kept-of, other-of, to-kept, meets-at, meets-all, all-of-them}
 
 module _ (test : ℕ → ℕ → Bool) (n : ℕ) where
   -- fewer conditions keep a start in common
@@ -41,15 +41,15 @@ module _ (test : ℕ → ℕ → Bool) (n : ℕ) where
         small = omega (arith, L .small);
         none = e;
         needed = λ b g f.
-            let other : b ≢ c = other-of m c b (L .small) h (omega arith) mine f in
+            let other : b ≢ c = other-of m c b mine f in
             let below : b < c = omega arith in
-            let its : has m b ≡ true = kept-of m c b (L .small) h (omega arith) mine f in
+            let its : has m b ≡ true = kept-of m c b mine f in
             fewer (m - 2 ^ b) (m - 2 ^ c - 2 ^ b) (λ d k x.
-            to-kept m b d (L .small) (omega arith) k its
-            (kept-of m c d (L .small) h k mine (kept-of (m - 2 ^ c) b d (omega (arith, L .small)) (omega arith) k f x))
-            (other-of (m - 2 ^ c) b d (omega (arith, L .small)) (omega arith) k f x))
+            to-kept m b d its
+            (kept-of m c d mine (kept-of (m - 2 ^ c) b d f x))
+            (other-of (m - 2 ^ c) b d f x))
             (L .needed b below its);
-        ahead = λ b g k. to-kept m c b (L .small) h k mine (L .ahead b (omega arith) k) (omega arith);
+        ahead = λ b g k. to-kept m c b mine (L .ahead b (omega arith) k) (omega arith);
       }
 
   left : (c : ℕ) → c ≤ conditionCount → common test n allConditions ≡ false → Left c (kept test n c)
@@ -65,7 +65,7 @@ module _ (test : ℕ → ℕ → Bool) (n : ℕ) where
     later b zero c h k = rw add-zero
     later b (suc j) c h k =
         let L : Left (b + j) (kept test n (b + j)) = left (b + j) (omega arith) e in
-        let same : has (kept test n (b + j) - 2 ^ (b + j)) c ≡ has (kept test n (b + j)) c = left-out (kept test n (b + j)) (b + j) c (L .small) (omega arith) (omega arith) (L .ahead (b + j) (omega arith) (omega arith)) ∙ rw (ne-eqb c (b + j) (omega arith)) (and-true _) in
+        let same : has (kept test n (b + j) - 2 ^ (b + j)) c ≡ has (kept test n (b + j)) c = others (kept test n (b + j)) (b + j) c (L .ahead (b + j) (omega arith) (omega arith)) (omega arith) in
         rw add-suc (dropped (common test n (kept test n (b + j) - 2 ^ (b + j))) (kept test n (b + j)) (2 ^ (b + j)) c same ∙ later b j c (omega arith) k)
       where
         dropped : (t : Bool) (m d c : ℕ) → has (m - d) c ≡ has m c → has (cond t m (m - d)) c ≡ has m c
@@ -77,11 +77,11 @@ module _ (test : ℕ → ℕ → Bool) (n : ℕ) where
     unfolding kept
     at-turn b h =
         let L : Left b (kept test n b) = left b (omega arith) e in
-        go (kept test n b) (L .small) (L .ahead b (omega arith) h) (common test n (kept test n b - 2 ^ b))
+        go (kept test n b) (L .ahead b (omega arith) h) (common test n (kept test n b - 2 ^ b))
       where
-        go : (m : ℕ) → m ≤ allConditions → has m b ≡ true → (t : Bool) → has (cond t m (m - 2 ^ b)) b ≡ t
-        go m s q true = q
-        go m s q false = left-out m b b s h h q ∙ rw (q, eq-eqb b b refl)
+        go : (m : ℕ) → has m b ≡ true → (t : Bool) → has (cond t m (m - 2 ^ b)) b ≡ t
+        go m q true = q
+        go m q false = left-out m b q
 
     -- a letter gone through is settled
     settled : (b c : ℕ) → b ≤ conditionCount → c < b → has (letters test n) c ≡ has (kept test n b) c
@@ -107,10 +107,10 @@ module _ (test : ℕ → ℕ → Bool) (n : ℕ) where
         let stays : has (letters test n) b ≡ common test n (kept test n b - 2 ^ b) = settled (suc b) b h (omega arith) ∙ at-turn b h in (
           λ q.
               let w = ever-found (meetsSet test (kept test n b - 2 ^ b)) n (sym stays ∙ q) in
-              (w .0, w .1, λ c k o f. meets-at test (kept test n b - 2 ^ b) (w .0) c (w .2) k (to-kept (kept test n b) b c (L .small) h k mine (kept-then b c h k f) o)),
+              (w .0, w .1, λ c k o f. meets-at test (kept test n b - 2 ^ b) (w .0) c (w .2) k (to-kept (kept test n b) b c mine (kept-then b c h k f) o)),
           λ w. stays ∙ ever-at (meetsSet test (kept test n b - 2 ^ b)) n (w .0) (w .1)
               (meets-all test (kept test n b - 2 ^ b) (w .0) (λ c k q.
-              w .2 c k (other-of (kept test n b) b c (L .small) h k mine q) (λ l. settled b c (omega arith) l ∙ kept-of (kept test n b) b c (L .small) h k mine q))),
+              w .2 c k (other-of (kept test n b) b c mine q) (λ l. settled b c (omega arith) l ∙ kept-of (kept test n b) b c mine q))),
         )
 
   -- a set whose conditions have no start in common, and have one without any one of them
@@ -130,6 +130,6 @@ module _ (test : ℕ → ℕ → Bool) (n : ℕ) where
         none = λ s h f. ever-none (meetsSet test m) n s (L .none) h (meets-all test m s f);
         least = λ b h q.
             let w = ever-found (meetsSet test (m - 2 ^ b)) n (L .needed b h q) in
-            (w .0, w .1, λ c k f o. meets-at test (m - 2 ^ b) (w .0) c (w .2) k (to-kept m b c (L .small) h k q f o));
+            (w .0, w .1, λ c k f o. meets-at test (m - 2 ^ b) (w .0) c (w .2) k (to-kept m b c q f o));
         turn = turn e;
       }

@@ -11,6 +11,7 @@ pub mod Limits
 pub mod Local
 pub mod Cases
 pub mod Order
+pub mod SameOrder
 pub mod Runs
 pub mod SameRuns
 pub mod Signed

@@ -29,7 +29,7 @@ module _ (h : Header) (before : Schedule) (a : Activity) where
       (earlier c)
 
   same-refusal : (m l : ℕ) → RefusedWith h before a m → RefusedWith h before a l → m ≡ l
-  same-refusal m l R S = by-letters m l (R .small) (S .small) (same-letters m l R S conditionCount (omega arith))
+  same-refusal m l R S = by-letters conditionCount m l (omega (arith, R .small)) (omega (arith, S .small)) (same-letters m l R S conditionCount (omega arith))
 
   -- each of two nearest starts is as near as the other, and as early
   same-start : (s r : ℕ) → PlacedAt h before a s → PlacedAt h before a r → s ≡ r

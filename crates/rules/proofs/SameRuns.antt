@@ -1,22 +1,21 @@
 -- RunsRight determines the runs; for the starts call they are at most 2,048, and set 0 gives the one run 0 to T − d.
 -- Assumes nothing.
 use Prim.Native.Nat.{ℕ, zero, suc, _-_, _<_, _≤_}
-use mathlib.Core.Path.{_≡_, refl, ap}
-use mathlib.Core.Bool.{Bool, true, false, not}
+use mathlib.Core.Path.{_≡_, refl}
+use mathlib.Core.Bool.{Bool, true, false}
 use mathlib.Core.List.{List, [], _∷_}
 use native.Mathlib.Omega.{arith}
 use native.Mathlib.Nat.{not-suc-le-zero}
 use lib.ListN.{length}
 use Rattle.rules.specs.Plan.{Plan}
-use Rattle.rules.specs.Tests.{each}
-use Rattle.rules.specs.Conditions.{conditionCount, has, meets, meetsSet}
+use Rattle.rules.specs.Conditions.{meets, meetsSet}
 use Rattle.rules.specs.Outcomes.{starts, activityAt, placed}
 use Rattle.rules.specs.Calls.{runs}
 use Rattle.rules.specs.RunsRight.{runAt, InRun, RunsRight}
 use Rattle.rules.specs.declared.Interval.{Interval}
-use Rattle.rules.proofs.Tests.{both-ways, is-false, each-at}
+use Rattle.rules.proofs.Tests.{both-ways, is-false}
 use Rattle.rules.proofs.Cases.{by-order}
-use Rattle.rules.proofs.Sets.{meets-all}
+use Rattle.rules.proofs.Sets.{meets-all, none-of-them}
 use Rattle.rules.proofs.Runs.{First, Runs, runs-told, runs-right}
 
 module _ (pass : ℕ → Bool) (n : ℕ) where
@@ -127,15 +126,10 @@ module _ (p : Plan) (k m : ℕ) where
   unfolding starts
   call-few h d = call-runs .few (omega arith)
 
--- the set 0 has no condition
-none-of-them : (c : ℕ) → c < conditionCount → not (has 0 c) ≡ true
-unfolding each has
-none-of-them c h = each-at (λ c. not (has 0 c)) conditionCount c refl h
-
 -- "Set 0 gives 0 to T − d"
 pub call-all : (p : Plan) (k : ℕ) → activityAt p k .duration ≤ p .header .horizon → runs p k 0 ≡ record { first = 0; last = p .header .horizon - activityAt p k .duration } ∷ []
 unfolding starts
 call-all p k h =
     let test = meets (p .header) (placed p k) (activityAt p k) in
     runs-same (meetsSet test 0) (starts (p .header) (activityAt p k)) _ _ (call-runs p k 0)
-    (runs-all _ _ _ (omega arith) (λ s. meets-all test 0 s (λ c l e. absurd (both-ways (none-of-them c l) (ap not e)))))
+    (runs-all _ _ _ (omega arith) (λ s. meets-all test 0 s (λ c l e. absurd (both-ways e (none-of-them c)))))

@@ -1,5 +1,5 @@
 -- The nine conditions by number, and sets of them (01, Calls: "W 1, D 2, U 4, S 8, E 16, P 32, B 64, V 128, H 256, added").
-use Prim.Native.Nat.{ℕ, suc, _^_, _/_, _%_}
+use Prim.Native.Nat.{ℕ, suc, _-_, _^_, _/_, _%_}
 use mathlib.Core.Bool.{Bool, false, cond, _||_, not}
 use mathlib.Core.List.{List, [], _∷_}
 use lib.Dec.{eqb}
@@ -22,7 +22,7 @@ abbrev pub conditionCount : ℕ
 conditionCount = 9
 
 abbrev pub allConditions : ℕ
-allConditions = 511
+allConditions = 2 ^ conditionCount - 1
 
 -- a test of a candidate at a start, beside those placed
 abbrev pub Condition : Type 0
