@@ -1,4 +1,1 @@
-pub mod StateColumns
-pub mod StateLaws
-pub mod StateSettings
-pub mod StateMeets
+pub mod Nests
