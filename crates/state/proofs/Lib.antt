@@ -1,1 +1,4 @@
-pub mod Nests
+pub mod Loops
+pub mod SpoilsTable
+pub mod Added
+pub mod StateMeets

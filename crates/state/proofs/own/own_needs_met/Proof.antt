@@ -6,7 +6,7 @@ use mathlib.Core.Bool.{true, false}
 use borrow.Author.Count.{below-more}
 use native.Mathlib.Omega.{arith}
 use Rattle.state.specs.Own.{unmetAt, judged, ownMet}
-use Rattle.state.proofs.Nests.{none-holds, one-holds}
+use Rattle.state.proofs.Loops.{none-holds, one-holds}
 use Rattle.state.proofs.own.own_needs_met.Statement.{statement}
 use Rattle.state.proofs.own.own_needs_met.Tie as tie
 

@@ -5,7 +5,7 @@ use mathlib.Core.Path.{_≡_, ap, _∙_}
 use native.Mathlib.Omega.{arith}
 use lib.ListN.{length, getD, length-set}
 use Rattle.state.specs.Spoils.{spoilAt}
-use Rattle.state.proofs.Nests.{written-more}
+use Rattle.state.proofs.Loops.{written-more}
 use Rattle.state.proofs.spoils.fill_spoils.Statement.{statement}
 use Rattle.state.proofs.spoils.fill_spoils.Tie as tie
 

@@ -7,7 +7,7 @@ use borrow.Author.Count.{below-more}
 use native.Mathlib.Omega.{arith}
 use Rattle.placed.specs.Tables.{endAt}
 use Rattle.state.specs.Spoils.{spoiltBy, spoilIn, placedMet}
-use Rattle.state.proofs.Nests.{none-holds, one-holds}
+use Rattle.state.proofs.Loops.{none-holds, one-holds}
 use Rattle.state.proofs.spoils.placed_needs_met.Statement.{statement}
 use Rattle.state.proofs.spoils.placed_needs_met.Tie as tie
 

@@ -4,7 +4,7 @@ use Prim.Native.Nat.{_-_, _≤_}
 use mathlib.Core.Path.{_≡_, refl}
 use native.Mathlib.Omega.{arith}
 use Rattle.state.specs.Standing.{standingBy}
-use Rattle.state.proofs.Nests.{stands-more}
+use Rattle.state.proofs.Loops.{stands-more}
 use Rattle.state.proofs.standing.standing_at.Statement.{statement}
 use Rattle.state.proofs.standing.standing_at.Tie as tie
 

@@ -1,4 +1,4 @@
--- Laws of the loops of the test of S: two loops of tests, the sets weighed so far, and the rows that matter.
+-- Laws of the loops of the test of S: two loops of tests, the sets weighed so far, the elements written so far.
 -- Assumes nothing.
 use Prim.Native.Nat.{ℕ, _+_, _-_, _*_, _≤_, _<_}
 use mathlib.Core.Path.{_≡_, refl, ap, _∙_, subst}
@@ -37,29 +37,3 @@ stands-more ticks settings v t n end code b r d e f g = rw add-one (g ∙ (λ i.
 pub written-more : (f : ℕ → ℕ) (k : ℕ) (l : List ℕ) (v : ℕ) → k < length l → v ≡ f k → ((i : ℕ) → i < k → getD l i 0 ≡ f i) → (i : ℕ) → i < k + 1 → getD (set l k v) i 0 ≡ f i
 written-more f k l v h e g =
     below-more (λ i. getD (set l k v) i 0 ≡ f i) k (λ i m. getD-set-other l k i v 0 (omega arith) ∙ g i m) (getD-set-same l k v 0 h ∙ e)
-
--- ---- the rows that matter
--- a test of the first r numbers is one of all n, where it holds from r on
-each-front : (p : ℕ → Bool) (n r : ℕ) → r ≤ n → ((i : ℕ) → r ≤ i → i < n → p i ≡ true) → each p n ≡ each p r
-each-front p n r l f =
-    bool-ext _ _ (λ q. each-all p r (λ i k. each-at p n i q (omega arith)))
-    (λ q. each-all p n (λ i k. go q i k (decLe r i)))
-  where
-    go : each p r ≡ true → (i : ℕ) → i < n → Dec (r ≤ i) → p i ≡ true
-    go q i k (yes h) = f i h k
-    go q i k (no h) = each-at p r i q (omega arith)
-
--- from k - 1 on is k - 1, or from k on
-pub last-from : (P : ℕ → Type 0) (k i : ℕ) → k - 1 ≤ i → P (k - 1) → (k ≤ i → P i) → P i
-last-from P k i l at more = go (decLe k i)
-  where
-    go : Dec (k ≤ i) → P i
-    go (yes h) = more h
-    go (no h) = let e : k - 1 ≡ i = omega arith in subst P e at
-
--- no need from number k on is ever spoilt
-pub rows-same : (spoils : List ℕ) (k n r : ℕ) → r ≤ n → k ≤ r * 4 → ((i : ℕ) → k ≤ i → i < n * 4 → never ≤ getD spoils i 0) → (ticks : List ℕ) (e : ℕ) → e < never → placedMet (spoilIn spoils) ticks n e ≡ placedMet (spoilIn spoils) ticks r e
-unfolding placedMet spoiltBy
-rows-same spoils k n r l m f ticks e h =
-    each-front _ n r l
-    (λ p g i. each-all _ _ (λ j q. rw (lt-leb (getD spoils (p * 4 + j) 0) e (omega (arith, f (p * 4 + j) (omega arith) (omega arith)))) refl))
