@@ -1,4 +1,4 @@
-pub mod StateColumns
-pub mod StateLaws
-pub mod StateSettings
+pub mod Loops
+pub mod SpoilsTable
+pub mod Added
 pub mod StateMeets

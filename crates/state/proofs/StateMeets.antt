@@ -1,287 +1,290 @@
--- The test of needs by columns is condition S.
+-- The test of S over the tables is condition S of the schedule that their rows say.
 -- Assumes nothing.
-use Prim.Native.Nat.{ℕ, zero, suc, _+_, _*_, _≤_, _<_}
+use Prim.Native.Nat.{ℕ, zero, suc, _+_, _≤_, _<_}
 use mathlib.Core.Path.{_≡_, refl, sym, ap, _∙_, subst}
 use mathlib.Core.Logic.{_⊎_, inl, inr}
 use mathlib.Core.Bool.{Bool, true, false, cond, _&&_, not}
-use mathlib.Core.List.{List, _∷_, List·Memᴰ}
+use mathlib.Core.List.{List, [], _∷_, List·Memᴰ, List·Memᴰ·head, List·Memᴰ·tail}
 use mathlib.Core.Option.{Option, none, some}
-use native.Mathlib.Decide.{decLe}
+use native.Mathlib.Decide.{decLt}
 use native.Mathlib.Omega.{arith}
-use lib.Dec.{leb, ltb, eqb}
+use native.Mathlib.Nat.{not-suc-le-zero}
+use lib.Dec.{leb, ltb, eqb, eqb·suc-zero, eqb·suc-suc}
 use lib.ListN.{length, getD}
-use borrow.Author.Tests.{leb-true, leb-false, ltb-true, ltb-false, le-leb, lt-ltb, le-ltb, not-true}
-use Rattle.rules.specs.Plan.{Setting, Entry, Schedule, at, end}
+use borrow.Author.Tests.{leb-true, leb-false, ltb-true, ltb-false, le-leb, lt-leb, lt-ltb, le-ltb, not-true, not-false}
+use Rattle.rules.specs.Plan.{Header, Setting, Activity, Entry, Schedule, at, end}
 use Rattle.rules.specs.Tests.{each, every}
 use Rattle.rules.specs.Hold.{holds}
+use Rattle.rules.specs.WellFormed.{SettingsFormed, ActivityFormed}
 use Rattle.rules.specs.MeetsS.{Standing, given, over, standing, met, needsKept, meetsS}
 use Rattle.rules.proofs.Tests.{each-at, each-all, every-mem, and-left, and-right, and-both, both-ways}
 use Rattle.rules.proofs.Every.{every-all}
 use Rattle.rules.proofs.Local.{bool-ext, holds-of, holds-from, holds-till, met-by-edges}
-use Rattle.plan.specs.View.{headerView, activityView, noStruct}
-use Rattle.plan.specs.declared.Header.{Header as HeaderStruct}
-use Rattle.plan.specs.declared.Activity.{Activity as ActivityStruct}
-use Rattle.placed.specs.declared.Schedule.{Schedule as ScheduleStruct}
-use Rattle.state.specs.declared.StandingValue.{StandingValue}
-use Rattle.placed.specs.View.{entriesView, scheduleView}
-use Rattle.placed.specs.Ready.{Ready}
-use Rattle.state.specs.State.{noSetting, codeOf, setCode, laterValue, standingBy, changeAt, unmetAt, ownMet, never, spoilFrom, spoiltBy, needAt, spoilNeed, placedMet, stateMet, PlacedFormed, EndsRight, SetsRight, SpoilsRight}
-use Rattle.placed.proofs.Entries.{entryAt, entry-in, entry-all, formed-at, in-time}
-use Rattle.state.proofs.StateSettings.{element-in, every-number, needs-count, need-is, need-small}
-use Rattle.state.proofs.StateLaws.{met-before, spoils-not, spoils-at, held-all, held-at}
+use Rattle.placed.specs.Tables.{startAt, endAt, setAt, needVariableAt, needCodeAt}
+use Rattle.placed.specs.Held.{codeOf, settingAt, TicksAt, SettingsAt, Rows, Reached}
+use Rattle.placed.proofs.Rows.{row-at}
+use Rattle.state.specs.declared.standing.StandingValue.{StandingValue}
+use Rattle.state.specs.Standing.{laterValue, standingBy}
+use Rattle.state.specs.Own.{changeAt, unmetAt, judged, ownMet}
+use Rattle.state.specs.Spoils.{never, canSpoil, spoilAt, spoiltBy, placedMet}
+use Rattle.state.specs.State.{needsMet, stateMet}
+use Rattle.state.proofs.Added.{met-before, spoilOf, spoils-not, spoils-at, held-all, held-at}
+
+-- ---- rows and lists by their numbers
+-- the row of an entry
+row-of : (P : ℕ → Entry → Type 0) (n : ℕ) (placed : Schedule) → Rows P n placed → (e : Entry) → List·Memᴰ e placed → (i : ℕ) × (i < n) × P i e
+unfolding Rows
+row-of P zero (x ∷ placed) r e m = absurd r
+row-of P (suc n) (x ∷ placed) r e (List·Memᴰ·head q) = (n, omega arith, subst (P n) (sym q) (r .0))
+row-of P (suc n) (x ∷ placed) r e (List·Memᴰ·tail m) = let w = row-of P n placed (r .1) e m in (w .0, omega (arith, w .1), w .2)
+
+element-in : (xs : List Setting) (j : ℕ) → j < length xs → List·Memᴰ (settingAt xs j) xs
+element-in [] j h = absurd (not-suc-le-zero h)
+element-in (x ∷ xs) zero h = List·Memᴰ·head refl
+element-in (x ∷ xs) (suc j) h = List·Memᴰ·tail (element-in xs j (omega arith))
+
+every-number : (p : Setting → Bool) (xs : List Setting) → ((j : ℕ) → j < length xs → p (settingAt xs j) ≡ true) → every p xs ≡ true
+unfolding every
+every-number p [] f = refl
+every-number p (x ∷ xs) f = and-both (f 0 (omega arith)) (every-number p xs (λ j h. f (suc j) (omega arith)))
 
 -- ---- the value that stands
-abbrev asStanding : StandingValue → Standing
-asStanding b = record { since = b .since; value = b .value }
+abbrev coded : Standing → StandingValue
+coded b = record { since = b .since; code = suc (b .value) }
 
-later-is : (e : Entry) (o : Option ℕ) (t : ℕ) (b : StandingValue) → asStanding (laterValue (end e) (codeOf o) t b) ≡ over e o t (asStanding b)
+later-is : (e : Entry) (o : Option ℕ) (t : ℕ) (b : Standing) → laterValue (end e) (codeOf o) t (coded b) ≡ coded (over e o t b)
 unfolding laterValue over
 later-is e none t b = refl
-later-is e (some k) t b = go (leb (end e) t && leb (b .since) (end e))
+later-is e (some k) t b = rw (eqb·suc-zero k) (go (leb (end e) t && leb (b .since) (end e)))
   where
-    go : (x : Bool) → asStanding (cond x (record { since = end e; value = k }) b) ≡ cond x (record { since = end e; value = k }) (asStanding b)
+    go : (x : Bool) → cond x (record { since = end e; code = suc k }) (coded b) ≡ coded (cond x (record { since = end e; value = k }) b)
     go true = refl
     go false = refl
 
-stands-is : (s : ScheduleStruct) (N : ℕ) (ends sets : List ℕ) → EndsRight s N ends → SetsRight s N sets → (v t : ℕ) → v < 8 → (n : ℕ) → n ≤ N → asStanding (standingBy ends sets v t n) ≡ standing (entriesView (s .activities) (s .starts) n) v t
-unfolding standingBy standing entriesView setCode activityView
-stands-is s N ends sets E S v t k zero l = refl
-stands-is s N ends sets E S v t k (suc n) l =
-    ap (λ x. asStanding (laterValue x (getD sets (n * 8 + v) 0) t (standingBy ends sets v t n))) (E .at n (omega arith))
-    ∙ ap (λ x. asStanding (laterValue (end (entryAt (s .activities) (s .starts) n)) x t (standingBy ends sets v t n))) (S .at n v (omega arith) k)
-    ∙ later-is (entryAt (s .activities) (s .starts) n) (given (activityView (getD (s .activities) n noStruct) .sets) v) t (standingBy ends sets v t n)
-    ∙ ap (over (entryAt (s .activities) (s .starts) n) (given (activityView (getD (s .activities) n noStruct) .sets) v) t) (stands-is s N ends sets E S v t k n (omega arith))
+-- row i says the entry e
+abbrev Said : Header → List ℕ → List ℕ → ℕ → Entry → Type 0
+Said h ticks settings i e = TicksAt h ticks i e × SettingsAt settings i (e .activity)
 
--- what the columns need
-pub placed-formed : (h : HeaderStruct) (s : ScheduleStruct) (a : ActivityStruct) → Ready h s a → PlacedFormed s
-unfolding headerView activityView
-placed-formed h s a R =
-    record {
-      few = R .few;
-      ends = λ i l. omega (arith, in-time (headerView h) s (R .reached) i l, R .reached .header .horizon);
-      sizes = R .sizes;
-      sets = λ i l. formed-at (headerView h) s (R .reached) i l .sets;
-      needs = λ i l. formed-at (headerView h) s (R .reached) i l .needs;
-    }
+stands-is : (h : Header) (ticks settings : List ℕ) (v t : ℕ) → v < 8 → (n : ℕ) (placed : Schedule) → Rows (Said h ticks settings) n placed → standingBy ticks settings v t n ≡ coded (standing placed v t)
+unfolding standingBy standing Rows
+stands-is h ticks settings v t k zero [] r = refl
+stands-is h ticks settings v t k (suc n) (e ∷ placed) r =
+    (λ i. laterValue (r .0 .0 .ends i) (r .0 .1 .sets v k i) t (stands-is h ticks settings v t k n placed (r .1) i))
+    ∙ later-is e (given (e .activity .sets) v) t (standing placed v t)
 
--- ---- beside a schedule that the planner can have reached, by right columns
-module _ (h : HeaderStruct) (s : ScheduleStruct) (a : ActivityStruct) (R : Ready h s a) (ends sets : List ℕ) (E : EndsRight s (s .count) ends) (S : SetsRight s (s .count) sets) where
-  abbrev placed : Schedule
-  placed = entriesView (s .activities) (s .starts) (s .count)
+-- ---- the needs of a row
+module _ (settings : List ℕ) (i : ℕ) (a : Activity) (S : SettingsAt settings i a) (F : SettingsFormed (a .needs)) (j : ℕ) where
+  module _ (k : j < length (a .needs)) where
+    few : j < 4
+    few = omega (arith, F .few)
 
-  abbrev entry : ℕ → Entry
-  entry i = entryAt (s .activities) (s .starts) i
+    small : settingAt (a .needs) j .variable < 8
+    small = omega (arith, F .inRange (settingAt (a .needs) j) (element-in (a .needs) j k) .0)
 
-  stands : (v t : ℕ) → v < 8 → asStanding (standingBy ends sets v t (s .count)) ≡ standing placed v t
-  stands v t k = stands-is s (s .count) ends sets E S v t k (s .count) (omega arith)
+    variable-is : needVariableAt settings i j ≡ settingAt (a .needs) j .variable
+    variable-is = S .needVariables j few
 
-  end-is : (i : ℕ) → i < s .count → getD ends i 0 ≡ end (entry i)
-  unfolding activityView
-  end-is i l = E .at i l
+    code-is : needCodeAt settings i j ≡ suc (settingAt (a .needs) j .value)
+    code-is = S .needCodes j few ∙ ap (λ (b : Bool). cond b (suc (settingAt (a .needs) j .value)) 0) (lt-ltb j (length (a .needs)) k)
 
-  -- ---- the candidate's needs
-  module _ (start : ℕ) (n : Setting) (small : n .variable < 8) where
-    abbrev unmet : ℕ → Bool
-    unmet k = unmetAt ends sets (s .count) (n .variable) (n .value) start (start + a .duration) k
+  -- past its needs there is none
+  code-none : j < 4 → length (a .needs) ≤ j → needCodeAt settings i j ≡ 0
+  code-none l k = S .needCodes j l ∙ ap (λ (b : Bool). cond b (suc (settingAt (a .needs) j .value)) 0) (le-ltb j (length (a .needs)) k)
 
-    met-is : (t : ℕ) → eqb (standingBy ends sets (n .variable) t (s .count) .value) (n .value) ≡ met placed t n
-    unfolding met
-    met-is t = ap (λ (x : Standing). eqb (x .value) (n .value)) (stands (n .variable) t small)
+-- ---- the first tick of effect that spoils
+spoil-is : (o : Option ℕ) (value since : ℕ) → cond (canSpoil (codeOf o) (suc value)) since never ≡ spoilOf o value since
+unfolding canSpoil
+spoil-is none value since = refl
+spoil-is (some k) value since = rw (eqb·suc-zero k, eqb·suc-zero value, eqb·suc-suc k value) (go (eqb k value))
+  where
+    go : (x : Bool) → cond (not x) since never ≡ cond x never since
+    go true = refl
+    go false = refl
 
-    -- what the test says of a tick that the candidate holds
-    judged : (t k : ℕ) → changeAt ends (s .count) k start ≡ t → holds t (at (activityView a) start) ≡ true → unmet k ≡ not (met placed t n)
-    unfolding unmetAt activityView
-    judged t k e q =
-        rw (e, le-leb _ _ (holds-from t (at (activityView a) start) q), lt-ltb _ _ (holds-till t (at (activityView a) start) q)) (ap not (met-is t))
+spoil-none : (code since : ℕ) → cond (canSpoil code 0) since never ≡ never
+unfolding canSpoil
+spoil-none code since = go (eqb code 0)
+  where
+    go : (x : Bool) → cond (not x && false && not x) since never ≡ never
+    go true = refl
+    go false = refl
 
-    change-end : (i : ℕ) → i < s .count → changeAt ends (s .count) i start ≡ end (entry i)
-    unfolding changeAt
-    change-end i l = rw (lt-ltb _ _ l) (end-is i l)
+module _ (h : Header) (ticks settings : List ℕ) (n : ℕ) (placed : Schedule) (a : Activity) (rows : Rows (Said h ticks settings) n placed) (S : SettingsAt settings n a) (R : Reached h placed) (F : ActivityFormed h a) where
+  -- the value that stands of the variable of a need
+  stands : (i : ℕ) (b : Activity) → SettingsAt settings i b → SettingsFormed (b .needs) → (j : ℕ) → j < length (b .needs) → (t : ℕ) → standingBy ticks settings (needVariableAt settings i j) t n ≡ coded (standing placed (settingAt (b .needs) j .variable) t)
+  stands i b T G j k t =
+      ap (λ v. standingBy ticks settings v t n) (variable-is settings i b T G j k)
+      ∙ stands-is h ticks settings (settingAt (b .needs) j .variable) t (small settings i b T G j k) n placed rows
 
-    change-start : changeAt ends (s .count) (s .count) start ≡ start
-    unfolding changeAt
-    change-start = rw (le-ltb (s .count) (s .count) (omega arith)) refl
-
-    not-unmet : (x : Bool) → not x ≡ false → x ≡ true
-    not-unmet true e = refl
-    not-unmet false e = sym e
-
-    pub own-all : 1 ≤ a .duration → ((k : ℕ) → k < suc (s .count) → unmet k ≡ false) → (t : ℕ) → holds t (at (activityView a) start) ≡ true → met placed t n ≡ true
-    unfolding activityView
-    own-all d f = met-by-edges placed (at (activityView a) start) n first others
-      where
-        first : met placed start n ≡ true
-        first =
-            not-unmet _ (sym (judged start (s .count) change-start (holds-of start (at (activityView a) start) (omega arith) (omega arith))) ∙ f (s .count) (omega arith))
-
-        others : (d : Entry) → List·Memᴰ d placed → holds (end d) (at (activityView a) start) ≡ true → met placed (end d) n ≡ true
-        others =
-            entry-all (s .activities) (s .starts) (λ d. holds (end d) (at (activityView a) start) ≡ true → met placed (end d) n ≡ true) (s .count)
-            (λ i l q. not-unmet _ (sym (judged (end (entry i)) i (change-end i l) q) ∙ f i (omega arith)))
-
-    pub own-none : ((t : ℕ) → holds t (at (activityView a) start) ≡ true → met placed t n ≡ true) → (k : ℕ) → unmet k ≡ false
-    unfolding unmetAt activityView
-    own-none f k = go (leb start t) refl (ltb t (start + a .duration)) refl
-      where
-        t : ℕ
-        t = changeAt ends (s .count) k start
-
-        go : (x : Bool) → leb start (changeAt ends (s .count) k start) ≡ x → (y : Bool) → ltb (changeAt ends (s .count) k start) (start + a .duration) ≡ y → x && y && not (eqb (standingBy ends sets (n .variable) (changeAt ends (s .count) k start) (s .count) .value) (n .value)) ≡ false
-        go true p true q = ap not (met-is (changeAt ends (s .count) k start) ∙ f (changeAt ends (s .count) k start) (holds-of _ (at (activityView a) start) (leb-true _ _ p) (ltb-true _ _ q)))
-        go true p false q = refl
-        go false p y q = refl
-
-  -- ---- the needs of the placed
-  -- what is kept beside the placed
-  kept : (e : Entry) → List·Memᴰ e placed → (n : Setting) → List·Memᴰ n (e .activity .needs) → (t : ℕ) → holds t e ≡ true → met placed t n ≡ true
-  unfolding needsKept scheduleView
-  kept e m n k =
-      held-at placed e n (every-mem (λ n. each (λ i. met placed (e .start + i) n) (e .activity .duration)) (e .activity .needs) (every-mem (λ e. every (λ n. each (λ i. met placed (e .start + i) n) (e .activity .duration)) (e .activity .needs)) placed (R .reached .kept .needs) m) k)
-
-  module _ (spoils : List ℕ) (P : SpoilsRight s a ends sets (s .count) (s .count) spoils) (start : ℕ) where
+  module _ (s : ℕ) (in-time : s + a .duration ≤ h .horizon) where
     abbrev c : Entry
-    c = at (activityView a) start
+    c = at a s
 
-    abbrev spoilt : ℕ → ℕ → Bool
-    spoilt p j = spoiltBy (getD spoils (p * 4 + j) 0) (getD ends p 0) (start + a .duration)
+    abbrev effect : ℕ
+    effect = s + a .duration
 
-    module _ (p : ℕ) (l : p < s .count) (j : ℕ) (k : j < length (activityView (getD (s .activities) p noStruct) .needs)) where
-      abbrev n : Setting
-      n = needAt (getD (s .activities) p noStruct) j
+    -- ---- the candidate's needs
+    abbrev unmet : ℕ → ℕ → Bool
+    unmet j k = unmetAt ticks settings n j s effect k
 
-      need-in : List·Memᴰ n (entry p .activity .needs)
-      unfolding needAt
-      need-in = element-in noSetting (activityView (getD (s .activities) p noStruct) .needs) j k
+    module _ (j : ℕ) (l : j < length (a .needs)) where
+      abbrev need : Setting
+      need = settingAt (a .needs) j
 
-      few : j < 4
-      few = omega (arith, formed-at (headerView h) s (R .reached) p l .needs .few)
+      met-is : (t : ℕ) → eqb (standingBy ticks settings (needVariableAt settings n j) t n .code) (needCodeAt settings n j) ≡ met placed t need
+      unfolding met
+      met-is t = (λ i. eqb (stands n a S (F .needs) j l t i .code) (code-is settings n a S (F .needs) j l i)) ∙ eqb·suc-suc (standing placed (need .variable) t .value) (need .value)
 
-      from-is : getD spoils (p * 4 + j) 0 ≡ spoilFrom (codeOf (given (activityView a .sets) (n .variable))) (n .value) (standing placed (n .variable) (entry p .start) .since)
-      unfolding spoilNeed setCode
-      from-is =
-          P .at p j l few
-          ∙ rw (lt-ltb j (length (activityView (getD (s .activities) p noStruct) .needs)) k) (ap (λ (x : Standing). spoilFrom (codeOf (given (activityView a .sets) (n .variable))) (n .value) (x .since)) (stands (n .variable) (entry p .start) (small (formed-at (headerView h) s (R .reached) p l .needs .inRange n need-in .0))))
+      -- what the test says of a tick that the candidate holds
+      judged-at : (t k : ℕ) → changeAt ticks n k s ≡ t → holds t c ≡ true → unmet j k ≡ false → met placed t need ≡ true
+      unfolding unmetAt
+      judged-at t k e q f =
+          not-false (met placed t need)
+          (sym (rw (e, le-leb _ _ (holds-from t c q), lt-ltb _ _ (holds-till t c q)) (ap not (met-is t))) ∙ f)
+
+      own-all : ((k : ℕ) → k < suc n → unmet j k ≡ false) → (t : ℕ) → holds t c ≡ true → met placed t need ≡ true
+      unfolding changeAt
+      own-all f =
+          met-by-edges placed c need
+          (judged-at s n (rw (le-ltb n n (omega arith)) refl) (holds-of s c (omega arith) (omega (arith, F .duration))) (f n (omega arith)))
+          (λ d m q.
+          let w = row-of (Said h ticks settings) n placed rows d m in
+          judged-at (end d) (w .0) (rw (lt-ltb (w .0) n (w .1)) (w .2 .0 .ends)) q (f (w .0) (omega (arith, w .1))))
+
+      own-none : ((t : ℕ) → holds t c ≡ true → met placed t need ≡ true) → (k : ℕ) → unmet j k ≡ false
+      unfolding unmetAt
+      own-none f k = go (leb s (changeAt ticks n k s)) refl (ltb (changeAt ticks n k s) effect) refl
         where
-          small : n .variable ≤ 7 → n .variable < 8
-          small h = omega arith
+          go : (x : Bool) → leb s (changeAt ticks n k s) ≡ x → (y : Bool) → ltb (changeAt ticks n k s) effect ≡ y → x && y && not (eqb (standingBy ticks settings (needVariableAt settings n j) (changeAt ticks n k s) n .code) (needCodeAt settings n j)) ≡ false
+          go true p true q = ap not (met-is (changeAt ticks n k s) ∙ f (changeAt ticks n k s) (holds-of _ c (leb-true _ _ p) (ltb-true _ _ q)))
+          go true p false q = refl
+          go false p y q = refl
 
-      kept-at : (t : ℕ) → holds t (entry p) ≡ true → met placed t n ≡ true
-      kept-at = kept (entry p) (entry-in (s .activities) (s .starts) (s .count) p l) n need-in
+      judged-is : judged settings n j ≡ suc n
+      unfolding judged
+      judged-is = rw (code-is settings n a S (F .needs) j l, eqb·suc-zero) refl
 
-      pub placed-all : spoilt p j ≡ false → (t : ℕ) → holds t (entry p) ≡ true → met (c ∷ placed) t n ≡ true
-      unfolding spoiltBy activityView
-      placed-all e = spoils-not placed c (entry p) n kept-at (go (leb (getD spoils (p * 4 + j) 0) (start + a .duration)) refl (ltb (start + a .duration) (getD ends p 0)) refl e)
-        where
-          go : (x : Bool) → leb (getD spoils (p * 4 + j) 0) (start + a .duration) ≡ x → (y : Bool) → ltb (start + a .duration) (getD ends p 0) ≡ y → x && y ≡ false → (end c < spoilFrom (codeOf (given (activityView a .sets) (n .variable))) (n .value) (standing placed (n .variable) (entry p .start) .since)) ⊎ (end (entry p) ≤ end c)
-          go true q true r e = absurd (both-ways refl e)
-          go true q false r e = inr (omega (arith, ltb-false (start + a .duration) (getD ends p 0) r, end-is p l))
-          go false q y r e = inl (omega (arith, leb-false (getD spoils (p * 4 + j) 0) (start + a .duration) q, from-is))
+    judged-none : (j : ℕ) → j < 4 → length (a .needs) ≤ j → judged settings n j ≡ 0
+    unfolding judged
+    judged-none j l k = rw (code-none settings n a S (F .needs) j l k) refl
 
-      pub placed-none : ((t : ℕ) → holds t (entry p) ≡ true → met (c ∷ placed) t n ≡ true) → spoilt p j ≡ false
-      unfolding spoiltBy activityView headerView
-      placed-none f = go (leb (getD spoils (p * 4 + j) 0) (start + a .duration)) refl (ltb (start + a .duration) (getD ends p 0)) refl
-        where
-          go : (x : Bool) → leb (getD spoils (p * 4 + j) 0) (start + a .duration) ≡ x → (y : Bool) → ltb (start + a .duration) (getD ends p 0) ≡ y → x && y ≡ false
-          go true q true r =
-              let F = formed-at (headerView h) s (R .reached) p l in
-              let w = spoils-at placed c (entry p) n kept-at (omega (arith, F .duration)) (omega (arith, in-time (headerView h) s (R .reached) p l, R .reached .header .horizon)) (omega (arith, leb-true (getD spoils (p * 4 + j) 0) (start + a .duration) q, from-is)) (omega (arith, ltb-true (start + a .duration) (getD ends p 0) r, end-is p l)) in
-              absurd (both-ways (f (w .0) (w .1)) (w .2))
-          go true q false r = refl
-          go false q y r = refl
+    abbrev holdsAll : Entry → Setting → Bool
+    holdsAll e m = each (λ i. met (c ∷ placed) (e .start + i) m) (e .activity .duration)
 
-    -- past its needs an activity has none to spoil
-    past-none : (p : ℕ) → p < s .count → (j : ℕ) → j < 4 → length (activityView (getD (s .activities) p noStruct) .needs) ≤ j → spoilt p j ≡ false
-    unfolding spoiltBy spoilNeed headerView
-    past-none p l j k g =
-        let e : getD spoils (p * 4 + j) 0 ≡ never = P .at p j l k ∙ rw (le-ltb j (length (activityView (getD (s .activities) p noStruct) .needs)) g) refl in
-        go (leb (getD spoils (p * 4 + j) 0) (start + a .duration)) refl (ltb (start + a .duration) (getD ends p 0)) refl e
+    abbrev own : Bool
+    own = ownMet ticks settings n s effect
+
+    own-yes : own ≡ true → every (holdsAll c) (a .needs) ≡ true
+    unfolding ownMet
+    own-yes q =
+        every-number (holdsAll c) (a .needs)
+        (λ j l. held-all (c ∷ placed) c (need j l)
+        (λ t r.
+        met-before placed c t (need j l) (holds-till t c r)
+        ∙ own-all j l (λ k m. not-true _ (each-at (λ k. not (unmet j k)) (judged settings n j) k (each-at _ 4 j q (few settings n a S (F .needs) j l)) (omega (arith, judged-is j l)))) t r))
+
+    own-no : every (holdsAll c) (a .needs) ≡ true → own ≡ true
+    unfolding ownMet
+    own-no q = each-all _ 4 (λ j l. each-all _ (judged settings n j) (λ k m. ap not (go j l k m (decLt j (length (a .needs))))))
       where
-        go : (x : Bool) → leb (getD spoils (p * 4 + j) 0) (start + a .duration) ≡ x → (y : Bool) → ltb (start + a .duration) (getD ends p 0) ≡ y → getD spoils (p * 4 + j) 0 ≡ never → x && y ≡ false
-        go true q true r e = absurd (omega (arith, leb-true (getD spoils (p * 4 + j) 0) (start + a .duration) q, ltb-true (start + a .duration) (getD ends p 0) r, end-is p l, in-time (headerView h) s (R .reached) p l, R .reached .header .horizon))
-        go true q false r e = refl
-        go false q y r e = refl
+        go : (j : ℕ) → j < 4 → (k : ℕ) → k < judged settings n j → Dec (j < length (a .needs)) → unmet j k ≡ false
+        go j l k m (yes g) =
+            own-none j g
+            (λ t r. sym (met-before placed c t (need j g) (holds-till t c r)) ∙ held-at (c ∷ placed) c (need j g) (every-mem (holdsAll c) (a .needs) q (element-in (a .needs) j g)) t r)
+            k
+        go j l k m (no g) = absurd (omega (arith, judged-none j l (omega arith)))
 
-    -- ---- both
-    module _ (long : length (a .«need_variable») ≡ 4) (wide : length (a .«need_value») ≡ 4) where
-      abbrev needOf : ℕ → Setting
-      needOf j = record { variable = getD (a .«need_variable») j 0; value = getD (a .«need_value») j 0 }
+    -- ---- the needs of the placed
+    abbrev spoilt : ℕ → ℕ → Bool
+    spoilt p j = spoiltBy (spoilAt ticks settings n p j) (endAt ticks p) effect
 
-      abbrev holdsAll : Entry → Setting → Bool
-      holdsAll e n = each (λ i. met (c ∷ placed) (e .start + i) n) (e .activity .duration)
+    module _ (p : ℕ) (e : Entry) (m : List·Memᴰ e placed) (E : Said h ticks settings p e) (j : ℕ) where
+      module _ (l : j < length (e .activity .needs)) where
+        abbrev want : Setting
+        want = settingAt (e .activity .needs) j
 
-      needs-are : length (activityView a .needs) ≡ a .«need_count»
-      needs-are = needs-count a (R .sized .needs) long wide
+        formed : SettingsFormed (e .activity .needs)
+        formed = R .formed e m .needs
 
-      need-at : (j : ℕ) → j < a .«need_count» → getD (activityView a .needs) j noSetting ≡ needOf j
-      unfolding needAt
-      need-at j k = need-is a (R .sized .needs) long wide j k
+        from-is : spoilAt ticks settings n p j ≡ spoilOf (given (a .sets) (want .variable)) (want .value) (standing placed (want .variable) (e .start) .since)
+        unfolding spoilAt
+        from-is =
+            (λ i. cond (canSpoil (set-is i) (code-is settings p (e .activity) (E .1) formed j l i)) (since-is i) never)
+            ∙ spoil-is (given (a .sets) (want .variable)) (want .value) (standing placed (want .variable) (e .start) .since)
+          where
+            set-is : setAt settings n (needVariableAt settings p j) ≡ codeOf (given (a .sets) (want .variable))
+            set-is = ap (setAt settings n) (variable-is settings p (e .activity) (E .1) formed j l) ∙ S .sets (want .variable) (small settings p (e .activity) (E .1) formed j l)
 
-      small-at : (j : ℕ) → j < a .«need_count» → getD (a .«need_variable») j 0 < 8
-      small-at j k = omega (arith, need-small a (R .sized .needs) long wide j k (R .candidate .needs))
+            since-is : standingBy ticks settings (needVariableAt settings p j) (startAt ticks p) n .since ≡ standing placed (want .variable) (e .start) .since
+            since-is = ap (λ t. standingBy ticks settings (needVariableAt settings p j) t n .since) (E .0 .start) ∙ ap (λ (b : StandingValue). b .since) (stands p (e .activity) (E .1) formed j l (e .start))
 
-      -- a need of the candidate's own ticks is one beside the placed
-      before : (t : ℕ) (n : Setting) → holds t c ≡ true → met (c ∷ placed) t n ≡ met placed t n
-      before t n q = met-before placed c t n (holds-till t c q)
+        -- beside the placed it is met
+        kept : (t : ℕ) → holds t e ≡ true → met placed t want ≡ true
+        unfolding needsKept
+        kept = held-at placed e want (every-mem (λ w. each (λ i. met placed (e .start + i) w) (e .activity .duration)) (e .activity .needs) (every-mem (λ e. every (λ w. each (λ i. met placed (e .start + i) w) (e .activity .duration)) (e .activity .needs)) placed (R .kept .needs) m) (element-in (e .activity .needs) j l))
 
-      abbrev own : Bool
-      own = ownMet (a .«need_variable») (a .«need_value») (a .«need_count») ends sets (s .count) start (start + a .duration)
+        placed-all : spoilt p j ≡ false → (t : ℕ) → holds t e ≡ true → met (c ∷ placed) t want ≡ true
+        unfolding spoiltBy
+        placed-all f = spoils-not placed c e want kept (go (leb (spoilAt ticks settings n p j) effect) refl (ltb effect (endAt ticks p)) refl f)
+          where
+            go : (x : Bool) → leb (spoilAt ticks settings n p j) effect ≡ x → (y : Bool) → ltb effect (endAt ticks p) ≡ y → x && y ≡ false → (end c < spoilOf (given (a .sets) (want .variable)) (want .value) (standing placed (want .variable) (e .start) .since)) ⊎ (end e ≤ end c)
+            go true q true r f = absurd (both-ways refl f)
+            go true q false r f = inr (omega (arith, ltb-false effect (endAt ticks p) r, E .0 .ends))
+            go false q y r f = inl (omega (arith, leb-false (spoilAt ticks settings n p j) effect q, from-is))
 
-      abbrev rest : Bool
-      rest = placedMet ends spoils (s .count) (start + a .duration)
+        placed-none : ((t : ℕ) → holds t e ≡ true → met (c ∷ placed) t want ≡ true) → spoilt p j ≡ false
+        unfolding spoiltBy
+        placed-none f = go (leb (spoilAt ticks settings n p j) effect) refl (ltb effect (endAt ticks p)) refl
+          where
+            go : (x : Bool) → leb (spoilAt ticks settings n p j) effect ≡ x → (y : Bool) → ltb effect (endAt ticks p) ≡ y → x && y ≡ false
+            go true q true r =
+                let w = spoils-at placed c e want kept (omega (arith, R .formed e m .duration)) (omega (arith, R .inTime e m, R .header .horizon)) (omega (arith, leb-true (spoilAt ticks settings n p j) effect q, from-is)) (omega (arith, ltb-true effect (endAt ticks p) r, E .0 .ends)) in
+                absurd (both-ways (f (w .0) (w .1)) (w .2))
+            go true q false r = refl
+            go false q y r = refl
 
-      abbrev needsOf : ℕ → List Setting
-      needsOf p = activityView (getD (s .activities) p noStruct) .needs
+      -- past its needs an activity has none to spoil
+      past-none : j < 4 → length (e .activity .needs) ≤ j → spoilt p j ≡ false
+      unfolding spoiltBy spoilAt
+      past-none l k =
+          rw (code-none settings p (e .activity) (E .1) (R .formed e m .needs) j l k, spoil-none, lt-leb never effect (omega (arith, R .header .horizon))) refl
 
-      own-yes : own ≡ true → every (holdsAll c) (activityView a .needs) ≡ true
-      unfolding ownMet activityView
-      own-yes q =
-          every-number noSetting (holdsAll c) (activityView a .needs)
-          (λ j k.
-          let l : j < a .«need_count» = omega (arith, needs-are) in
-          subst (λ (n : Setting). holdsAll c n ≡ true) (sym (need-at j l))
-          (held-all (c ∷ placed) c (needOf j)
-          (λ t r.
-          before t (needOf j) r
-          ∙ own-all start (needOf j) (small-at j l) (R .candidate .duration .0)
-          (λ i m. not-true _ (each-at (λ i. not (unmet start (needOf j) (small-at j l) i)) (suc (s .count)) i (each-at _ (a .«need_count») j q l) m)) t r)))
+    abbrev rest : Bool
+    rest = placedMet (spoilAt ticks settings n) ticks n effect
 
-      own-no : every (holdsAll c) (activityView a .needs) ≡ true → own ≡ true
-      unfolding ownMet
-      own-no q =
-          each-all _ _
-          (λ j l. each-all _ _
-          (λ i m. ap not
-          (own-none start (needOf j) (small-at j l)
-          (λ t r.
-          sym (before t (needOf j) r)
-          ∙ held-at (c ∷ placed) c (needOf j) (subst (λ (n : Setting). holdsAll c n ≡ true) (need-at j l) (every-mem (holdsAll c) (activityView a .needs) q (element-in noSetting (activityView a .needs) j (omega (arith, needs-are))))) t r)
-          i)))
+    rest-yes : rest ≡ true → every (λ e. every (holdsAll e) (e .activity .needs)) placed ≡ true
+    unfolding placedMet
+    rest-yes q =
+        every-all _ placed
+        (λ e m.
+        let w = row-of (Said h ticks settings) n placed rows e m in
+        every-number (holdsAll e) (e .activity .needs)
+        (λ j l. held-all (c ∷ placed) e (settingAt (e .activity .needs) j)
+        (placed-all (w .0) e m (w .2) j l (not-true _ (each-at (λ j. not (spoilt (w .0) j)) 4 j (each-at (λ p. each (λ j. not (spoilt p j)) 4) n (w .0) q (w .1)) (few settings (w .0) (e .activity) (w .2 .1) (R .formed e m .needs) j l))))))
 
-      rest-yes : rest ≡ true → every (λ e. every (holdsAll e) (e .activity .needs)) placed ≡ true
-      unfolding placedMet needAt
-      rest-yes q =
-          every-all _ placed
-          (entry-all (s .activities) (s .starts) (λ e. every (holdsAll e) (e .activity .needs) ≡ true) (s .count)
-          (λ p l. every-number noSetting (holdsAll (entry p)) (needsOf p)
-          (λ j k. held-all (c ∷ placed) (entry p) (getD (needsOf p) j noSetting)
-          (placed-all p l j k (not-true _ (each-at (λ j. not (spoilt p j)) 4 j (each-at (λ p. each (λ j. not (spoilt p j)) 4) (s .count) p q l) (few p l j k)))))))
+    rest-no : every (λ e. every (holdsAll e) (e .activity .needs)) placed ≡ true → rest ≡ true
+    unfolding placedMet
+    rest-no q =
+        each-all _ n
+        (λ p k.
+        let w = row-at (Said h ticks settings) n placed rows p k in
+        each-all _ 4 (λ j l. ap not (go p (w .0) (w .1) (w .2) j l (decLt j (length (w .0 .activity .needs))))))
+      where
+        go : (p : ℕ) (e : Entry) → List·Memᴰ e placed → Said h ticks settings p e → (j : ℕ) → j < 4 → Dec (j < length (e .activity .needs)) → spoilt p j ≡ false
+        go p e m E j l (yes g) =
+            placed-none p e m E j g
+            (held-at (c ∷ placed) e (settingAt (e .activity .needs) j) (every-mem (holdsAll e) (e .activity .needs) (every-mem (λ e. every (holdsAll e) (e .activity .needs)) placed q m) (element-in (e .activity .needs) j g)))
+        go p e m E j l (no g) = past-none p e m E j l (omega arith)
 
-      rest-no : every (λ e. every (holdsAll e) (e .activity .needs)) placed ≡ true → rest ≡ true
-      unfolding placedMet needAt
-      rest-no q = each-all _ _ (λ p l. each-all _ _ (λ j k. ap not (go p l j k (decLe (j + 1) (length (needsOf p))))))
-        where
-          go : (p : ℕ) → p < s .count → (j : ℕ) → j < 4 → Dec (j + 1 ≤ length (needsOf p)) → spoilt p j ≡ false
-          go p l j k (yes g) =
-              placed-none p l j (omega arith)
-              (held-at (c ∷ placed) (entry p) (getD (needsOf p) j noSetting)
-              (every-mem (holdsAll (entry p)) (needsOf p)
-              (every-mem (λ e. every (holdsAll e) (e .activity .needs)) placed q (entry-in (s .activities) (s .starts) (s .count) p l))
-              (element-in noSetting (needsOf p) j (omega arith))))
-          go p l j k (no g) = past-none p l j k (omega arith)
+    state-is : stateMet ticks settings n (a .duration) s ≡ meetsS h placed a s
+    unfolding stateMet needsMet meetsS needsKept every
+    state-is =
+        bool-ext _ _
+        (λ q. and-both (own-yes (and-left _ _ q)) (rest-yes (and-right own rest q)))
+        (λ q. and-both (own-no (and-left _ _ q)) (rest-no (and-right (every (holdsAll c) (a .needs)) _ q)))
 
-      pub needs-is : stateMet (a .«need_variable») (a .«need_value») (a .«need_count») ends sets spoils (s .count) (a .duration) start ≡ meetsS (headerView h) (scheduleView s) (activityView a) start
-      unfolding stateMet meetsS needsKept every scheduleView
-      needs-is =
-          bool-ext _ _
-          (λ q. and-both (own-yes (and-left _ _ q)) (rest-yes (and-right own rest q)))
-          (λ q. and-both (own-no (and-left _ _ q)) (rest-no (and-right (every (holdsAll c) (activityView a .needs)) _ q)))
+pub state-meets : (h : Header) (ticks settings : List ℕ) (n : ℕ) (placed : Schedule) (a : Activity)
+    → Rows (λ i e. TicksAt h ticks i e × SettingsAt settings i (e .activity)) n placed
+    → SettingsAt settings n a → Reached h placed → ActivityFormed h a
+    → (s : ℕ) → s + a .duration ≤ h .horizon → stateMet ticks settings n (a .duration) s ≡ meetsS h placed a s
+state-meets = state-is

@@ -1,1 +1,4 @@
+pub mod Standing
+pub mod Own
+pub mod Spoils
 pub mod State

@@ -1,0 +1,84 @@
+// The candidate's own needs, at its start and wherever a placed activity ends inside it.
+ghost use mathlib.Core.Path.{_≡_};
+ghost use Prim.Native.Nat.{_+_, _<_};
+ghost use Rattle.placed.specs.Bounds.{SettingsBounded};
+ghost use Rattle.state.specs.Own.{changeAt, unmetAt, judged, ownMet};
+use crate::rows::end_at;
+use crate::rows::need_code_at;
+use crate::rows::need_variable_at;
+use crate::standing::standing_at;
+
+// The tick number `k` at which a need is judged: the end of a placed activity, or the start.
+fn change_at(ticks: &[u16; 256], n: usize, k: usize, start: u16) -> u16
+    requires { ⌜ n < 64 ⌝ }
+    ensures { λ r. ⌜ r ≡ changeAt (now (ticks .entry)) n k start ⌝ }
+{
+    if k < n {
+        return end_at(ticks, k);
+    }
+    start
+}
+
+// Whether need number `j` of row `n` is unmet at the tick number `k`, if that is before `end` and not before `start`.
+fn unmet_at<'a>(
+    ticks: &'a [u16; 256],
+    settings: &'a [u16; 1024],
+    n: usize,
+    j: usize,
+    start: u16,
+    end: u16,
+    k: usize,
+) -> bool
+    requires { ⌜ (n < 64) × (j < 4) × SettingsBounded (now settings) (n + 1) ⌝ }
+    ensures { λ r. ⌜ r ≡ unmetAt (now (ticks .entry)) (now (settings .entry)) n j start end k ⌝ }
+{
+    let t = change_at(ticks, n, k, start);
+    if t < start {
+        return false;
+    }
+    if end <= t {
+        return false;
+    }
+    let variable = need_variable_at(settings, n, j);
+    let standing = standing_at(ticks, settings, n, variable, t);
+    standing.code != need_code_at(settings, n, j)
+}
+
+// At how many ticks need number `j` of row `n` is judged: at none where there is no such need.
+fn judged_ticks(settings: &[u16; 1024], n: usize, j: usize) -> usize
+    requires { ⌜ (n < 64) × (j < 4) ⌝ }
+    ensures { λ r. ⌜ r ≡ judged (now (settings .entry)) n j ⌝ }
+{
+    if need_code_at(settings, n, j) == 0 {
+        return 0;
+    }
+    n + 1
+}
+
+// Whether the needs of row `n` are met from `start` to before `end`.
+pub fn own_needs_met<'a>(
+    ticks: &'a [u16; 256],
+    settings: &'a [u16; 1024],
+    n: usize,
+    start: u16,
+    end: u16,
+) -> bool
+    requires { ⌜ (n < 64) × SettingsBounded (now settings) (n + 1) ⌝ }
+    ensures { λ r. ⌜ r ≡ ownMet (now (ticks .entry)) (now (settings .entry)) n start end ⌝ }
+{
+    let mut met = true;
+    let mut j = 0;
+    'needs: while j < 4 {
+        let count = judged_ticks(settings, n, j);
+        let mut k = 0;
+        'ticks: while k < count {
+            if unmet_at(ticks, settings, n, j, start, end, k) {
+                met = false;
+                break 'needs;
+            }
+            k += 1;
+        }
+        j += 1;
+    }
+    met
+}
