@@ -1,2 +1,5 @@
-pub mod ChargeLaws
-pub mod ChargeDraws
+pub mod Step
+pub mod Running
+pub mod Trying
+pub mod Drawn
+pub mod ConditionB

@@ -1,4 +1,4 @@
--- What the charge trial works on: the draw of one activity, the sum of draws at each tick, and the charges that they leave.
+-- Condition B as the code tests it: what is drawn in each tick, the charges that it leaves, and whether they keep to the floor and the handover charge.
 use Prim.Native.Nat.{ℕ, zero, suc, _+_, _-_, _<_, _≤_}
 use mathlib.Core.Path.{_≡_}
 use mathlib.Core.Bool.{Bool, true, cond, _&&_}
@@ -10,23 +10,35 @@ use lib.Signed.{leZ}
 use Rattle.rules.specs.Tests.{each}
 use Rattle.rules.specs.Warmup.{warmupAt}
 use Rattle.rules.specs.MeetsB.{smaller}
-use Rattle.plan.specs.declared.Header.{Header as HeaderStruct}
-use Rattle.charge.specs.declared.OwnDraw.{OwnDraw}
+use Rattle.activity.specs.declared.Header.{Header as HeaderStruct}
+use Rattle.placed.specs.Tables.{heatAt, startAt, endAt, drawAt}
+use Rattle.charge.specs.declared.draws.OwnDraw.{OwnDraw}
 
--- an activity of this duration, draw and warm at the start s
+-- an activity of this duration, draw and warm at the start s, and the activity of row i
 abbrev pub ownDraw : HeaderStruct → ℕ → ℕ → ℕ → ℕ → OwnDraw
 ownDraw h s duration draw warm = record { heat = s - warmupAt (h .minute) s warm; start = s; end = s + duration; draw = draw; heater = h .heater }
+
+abbrev pub rowDraw : HeaderStruct → List ℕ → List ℕ → ℕ → OwnDraw
+rowDraw h ticks amounts i = record { heat = heatAt ticks i; start = startAt ticks i; end = endAt ticks i; draw = drawAt amounts i; heater = h .heater }
 
 -- what it draws at tick t
 unfoldable pub drawOf : OwnDraw → ℕ → ℕ
 drawOf o t = cond (ltb t (o .start)) (cond (leb (o .heat) t) (o .heater) 0) (cond (ltb t (o .end)) (o .draw) 0)
 
--- the draws of the placed, and `by` more; and one activity's more
-unfoldable pub drawMore : List ℕ → ℕ → ℕ → ℕ
-drawMore draws by t = getD draws t 0 + by
+-- what the first n rows draw at tick t
+unfoldable pub drawnIn : HeaderStruct → List ℕ → List ℕ → ℕ → ℕ → ℕ
+drawnIn h ticks amounts zero t = 0
+drawnIn h ticks amounts (suc n) t = drawOf (rowDraw h ticks amounts n) t + drawnIn h ticks amounts n t
 
-unfoldable pub drawWith : List ℕ → OwnDraw → ℕ → ℕ
-drawWith draws o t = getD draws t 0 + drawOf o t
+-- the same as an array has it; with `by` more; with one activity's more
+abbrev pub atTick : List ℕ → ℕ → ℕ
+atTick draws t = getD draws t 0
+
+unfoldable pub drawMore : (ℕ → ℕ) → ℕ → ℕ → ℕ
+drawMore draw by t = draw t + by
+
+unfoldable pub drawWith : (ℕ → ℕ) → OwnDraw → ℕ → ℕ
+drawWith draw o t = draw t + drawOf o t
 
 -- the charge after a tick, and at tick t
 unfoldable pub chargeNext : ℕ → ℕ → ℕ → ℤ → ℤ
@@ -41,15 +53,15 @@ unfoldable pub keptBy : HeaderStruct → (ℕ → ℕ) → Bool
 keptBy h draw = each (λ t. leZ (pos (h .floor)) (chargeBy h draw t)) (suc (h .horizon)) && leZ (pos (h .handover)) (chargeBy h draw (h .horizon))
 
 -- the same with an activity added at the start s
-unfoldable pub keptAt : HeaderStruct → List ℕ → ℕ → ℕ → ℕ → ℕ → Bool
-keptAt h draws duration draw warm s = keptBy h (drawWith draws (ownDraw h s duration draw warm))
+unfoldable pub keptAt : HeaderStruct → (ℕ → ℕ) → ℕ → ℕ → ℕ → ℕ → Bool
+keptAt h draw duration own warm s = keptBy h (drawWith draw (ownDraw h s duration own warm))
 
 -- sums of draws of a schedule that keeps its charge
 pub record Drawing (draws : List ℕ) (h : HeaderStruct) : Type 0 where
   pub known : h .horizon ≤ length draws
   pub short : h .horizon ≤ 4096
   pub first : h .first ≤ h .capacity
-  pub kept : keptBy h (drawMore draws 0) ≡ true
+  pub kept : keptBy h (atTick draws) ≡ true
 
 -- an array of the charges at each tick to the horizon
 pub record Charges (h : HeaderStruct) (draw : ℕ → ℕ) (xs : List ℤ) : Type 0 where

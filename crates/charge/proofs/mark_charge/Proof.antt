@@ -1,29 +1,46 @@
--- `mark_charge` meets its contract: the draws of the placed are the definition's, so each trial is condition B.
+-- `mark_charge` meets its contract: the draws of the placed are those of the rows, so each trial is the rows' too.
 -- Assumes nothing.
-use mathlib.Core.Path.{refl, sym}
-use Rattle.placed.proofs.Marking.{same-marked}
-use Rattle.placed.proofs.Lists.{zeros}
-use Rattle.charge.proofs.ChargeDraws.{drawing, meets-is}
+use native.Mathlib.Omega.{arith}
+use mathlib.Core.Path.{refl}
+use Rattle.rules.proofs.Lists.{zeros}
+use Rattle.activity.specs.View.{headerView}
+use Rattle.placed.specs.Tables.{drawAt}
+use Rattle.sets.proofs.Marking.{same-marked}
+use Rattle.charge.specs.Charge.{keptAt}
+use Rattle.charge.proofs.Drawn.{drawing, amounts-fewer}
 use borrow.Author.Needs.{needs}
 use Rattle.charge.proofs.mark_charge.Statement.{statement}
 use Rattle.charge.proofs.mark_charge.Tie as tie
 
 slice-aggregate-add-placed : tie.Need-slice-aggregate-add-placed
-slice-aggregate-add-placed c = refl
+slice-aggregate-add-placed c = search needs
 
 add-placed-requires : tie.Need-add-placed-requires
+unfolding headerView
 add-placed-requires c κs =
-    let s = c .before .before in
-    ((s .pre .0 .reached, s .pre .0 .few, refl), zeros 4096)
+    let p = c .before .before .pre in
+    ((p .0 .1, amounts-fewer _ _ _ (omega arith) (p .0 .2), p .1 .0 .0 .heater), (refl, zeros 4096))
+
+mul-draw : tie.Need-mul-draw
+mul-draw c = search needs
+
+add-draw : tie.Need-add-draw
+add-draw c = search needs
+
+mul-draw-2 : tie.Need-mul-draw-2
+mul-draw-2 c = search needs
+
+element-copy-out-draw : tie.Need-element-copy-out-draw
+element-copy-out-draw c = search needs
 
 slice-aggregate-mark-trials : tie.Need-slice-aggregate-mark-trials
-slice-aggregate-mark-trials c = sym (c .before .before .add-placed .kept .1 .1 .0)
+slice-aggregate-mark-trials c = search needs
 
 mark-trials-requires : tie.Need-mark-trials-requires
 mark-trials-requires c κs =
-    let p = c .before .before .before in
-    let s = p .before .before .before in
-    (drawing _ _ _ (p .add-placed .ensures) (s .pre .0 .reached) (p .add-placed .kept .1 .1 .0), s .pre .1)
+    let a = c .before .before .before .before in
+    let p = a .before .before .before .pre in
+    (drawing _ _ _ (a .add-placed .ensures) (a .add-placed .kept .1 .1 .1 .1 .0) (p .1 .0 .0) (p .1 .0 .1), p .1 .1 .0, p .1 .1 .1)
 
 same-length : tie.Need-same-length
 same-length c = search needs
@@ -31,8 +48,9 @@ same-length c = search needs
 returns : tie.Need-returns
 returns c =
     let m = c .before .before in
-    let p = m .before .before .before .before in
-    same-marked _ _ _ _ _ _ (λ k l. meets-is _ _ _ _ (p .add-placed .ensures) k) (m .mark-trials .ensures)
+    let a = m .before .before .before .before .before in
+    let s = a .before .before .before .args in
+    same-marked _ _ _ _ _ _ (λ k _ i. keptAt (s .header) (λ t. a .add-placed .ensures t i) (s .duration) (drawAt (s .amounts .now) (s .n)) (s .warm) k) (m .mark-trials .ensures)
 
 pub mark-charge-spec : {M : Type 1} → statement M
 mark-charge-spec =
@@ -40,6 +58,10 @@ mark-charge-spec =
     (tie.spec
     slice-aggregate-add-placed
     add-placed-requires
+    mul-draw
+    add-draw
+    mul-draw-2
+    element-copy-out-draw
     slice-aggregate-mark-trials
     mark-trials-requires
     same-length

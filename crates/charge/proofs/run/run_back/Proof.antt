@@ -10,13 +10,13 @@ use mir.Syntax.{w64}
 use mir.Val.{toZ}
 use mir.Facts.{toZ-ofZ}
 use Rattle.rules.proofs.Signed.{signed}
-use Rattle.charge.specs.Charge.{drawMore, chargeNext}
-use Rattle.charge.proofs.ChargeLaws.{AtTick, tick-first, tick-floor, tick-range, tick-more}
-use Rattle.charge.proofs.run_back.Statement.{statement}
-use Rattle.charge.proofs.run_back.Tie as tie
+use Rattle.charge.specs.Charge.{atTick, chargeNext}
+use Rattle.charge.proofs.Running.{AtTick, tick-first, tick-floor, tick-range, tick-more}
+use Rattle.charge.proofs.run.run_back.Statement.{statement}
+use Rattle.charge.proofs.run.run_back.Tie as tie
 
 abbrev Inv-ticks : tie.InvT-ticks
-Inv-ticks draws header base from charge₀ horizon floor t₀ c₀ charge t c = (t ≤ header .horizon) × AtTick header (drawMore draws 0) from t c charge₀ charge
+Inv-ticks draws header base from charge₀ horizon floor t₀ c₀ charge t c = (t ≤ header .horizon) × AtTick header (atTick draws) from t c charge₀ charge
 
 abbrev μ-ticks : tie.MeasureT-ticks
 μ-ticks draws header base from charge₀ horizon floor t₀ c₀ charge t c = header .horizon - t
@@ -72,15 +72,13 @@ ticks-less : tie.Need-ticks-less Inv-ticks μ-ticks
 ticks-less c = omega arith
 
 ticks-again : tie.Need-ticks-again Inv-ticks μ-ticks
-unfolding drawMore
 ticks-again c =
     let i = c .before .before .before in
     let a = i .before .before .before .before in
-    let s = a .before .before .before .before .before in
-    let d : c .before .wide .result ≡ getD (s .args .draws .now) (a .ticks .t) 0 + 0 = omega (arith, c .before .wide .ensures .0) in (
+    let s = a .before .before .before .before .before in (
       omega arith,
       tick-more _ _ _ _ _ _ _ (a .ticks .inv .1) (i .if2 .taken) _ (omega arith) (c .step .ok)
-          (c .step .ensures ∙ ap (λ d. chargeNext (s .args .header .capacity) (s .args .header .rate) d (toZ w64 (a .ticks .c))) d),
+          (c .step .ensures ∙ ap (λ d. chargeNext (s .args .header .capacity) (s .args .header .rate) d (toZ w64 (a .ticks .c))) (c .before .wide .ensures .0)),
     )
 
 same-length : tie.Need-same-length Inv-ticks μ-ticks

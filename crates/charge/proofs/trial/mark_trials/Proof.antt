@@ -3,18 +3,17 @@
 use native.Mathlib.Omega.{arith}
 use Prim.Native.Nat.{_+_, _-_, _≤_}
 use mathlib.Core.Path.{_≡_, refl, sym, ap, _∙_}
-use mathlib.Core.Bool.{Bool, cond}
-use lib.ListN.{length, getD}
-use Rattle.charge.specs.declared.OwnDraw.{OwnDraw}
-use Rattle.charge.specs.Charge.{drawWith, keptBy, keptAt}
-use Rattle.placed.specs.Marked.{Marked}
-use Rattle.placed.proofs.Marking.{none-marked, more-marked}
-use Rattle.charge.proofs.mark_trials.Statement.{statement}
-use Rattle.charge.proofs.mark_trials.Tie as tie
+use lib.ListN.{length}
+use Rattle.sets.specs.Table.{Marked}
+use Rattle.sets.proofs.Marking.{none-marked, marked-more, markable-at}
+use Rattle.charge.specs.declared.draws.OwnDraw.{OwnDraw}
+use Rattle.charge.specs.Charge.{atTick, drawWith, keptBy, keptAt}
+use Rattle.charge.proofs.trial.mark_trials.Statement.{statement}
+use Rattle.charge.proofs.trial.mark_trials.Tie as tie
 
 abbrev Inv-loop : tie.InvT-loop
 Inv-loop draws header duration draw warm count by table₀ base trial₀ s₀ table trial s =
-    (s ≤ count) × (length trial ≡ 4097) × Marked (keptAt header draws duration draw warm) by s table₀ table
+    (s ≤ count) × (length trial ≡ 4097) × Marked (keptAt header (atTick draws) duration draw warm) by s table₀ table
 
 abbrev μ-loop : tie.MeasureT-loop
 μ-loop draws header duration draw warm count by table₀ base trial₀ s₀ table trial s = count - s
@@ -31,15 +30,10 @@ fill-charges-requires c κs = (c .before .before .before .pre .0, refl)
 loop-holds : tie.Need-loop-holds Inv-loop μ-loop
 loop-holds c = (omega arith, refl, none-marked _ _ _)
 
-cast-own-draw : tie.Need-cast-own-draw Inv-loop μ-loop
-cast-own-draw c =
-    let s = start (c .before) in
-    omega (arith, s .pre .0 .short, s .pre .1 .0 .0)
-
 own-draw-requires : tie.Need-own-draw-requires Inv-loop μ-loop
 own-draw-requires c κs =
     let s = start (c .before) in
-    omega (arith, s .pre .0 .short, s .pre .1 .0 .0)
+    omega (arith, s .pre .0 .short, s .pre .1)
 
 slice-aggregate-keeps-charge : tie.Need-slice-aggregate-keeps-charge Inv-loop μ-loop
 slice-aggregate-keeps-charge c = sym (c .before .before .before .before .before .fill-charges .ensures .size)
@@ -56,31 +50,12 @@ keeps-charge-requires c κs =
     let heat = ap (λ (o : OwnDraw). o .heat) e in
     let begin = ap (λ (o : OwnDraw). o .start) e in
     let end = ap (λ (o : OwnDraw). o .end) e in
-    ((s .pre .0, a .before .before .fill-charges .ensures, a .loop .inv .1), omega (arith, s .pre .1 .0 .0))
+    ((s .pre .0, a .before .before .fill-charges .ensures, a .loop .inv .1), omega (arith, s .pre .1))
 
-mul-table : tie.Need-mul-table Inv-loop μ-loop
-mul-table c = omega arith
-
-slice-read-table : tie.Need-slice-read-table Inv-loop μ-loop
-slice-read-table c =
+raise-requires : tie.Need-raise-requires Inv-loop μ-loop
+raise-requires c κs =
     let a = c .before .before .before .before .before .before .before in
-    omega (arith, a .loop .inv .2 .size, start a .pre .1 .0 .1)
-
-mark-if-requires : tie.Need-mark-if-requires Inv-loop μ-loop
-mark-if-requires c κs = tt
-
-add-table : tie.Need-add-table Inv-loop μ-loop
-add-table c =
-    let a = c .before .before .before .before .before .before .before .before in
-    omega (arith, a .loop .inv .2 .rest (a .loop .s) (omega arith), start a .pre .1 .1 (a .loop .s), c .mark-if .ensures .1)
-
-mul-table-2 : tie.Need-mul-table-2 Inv-loop μ-loop
-mul-table-2 c = omega arith
-
-slice-write-table : tie.Need-slice-write-table Inv-loop μ-loop
-slice-write-table c =
-    let a = c .before .before .before .before .before .before .before .before in
-    omega (arith, a .loop .inv .2 .size, start a .pre .1 .0 .1)
+    markable-at _ _ _ _ _ _ (omega arith) (start a .pre .2) (a .loop .inv .2)
 
 add-s : tie.Need-add-s Inv-loop μ-loop
 add-s c = omega arith
@@ -91,17 +66,14 @@ loop-less c = omega arith
 loop-again : tie.Need-loop-again Inv-loop μ-loop
 unfolding keptAt
 loop-again c =
-    let k = c .before .before .before in
+    let k = c .before .before .before .before .before in
     let o = k .before .before .before in
     let a = o .before .before in
-    let s = start a in
-    let kept : k .keeps-charge .result ≡ keptAt (s .args .header) (s .args .draws .now) (s .args .duration) (s .args .draw) (s .args .warm) (a .loop .s) =
-    k .keeps-charge .ensures ∙ ap (λ (o : OwnDraw). keptBy (s .args .header) (drawWith (s .args .draws .now) o)) (o .own-draw .ensures) in (
+    let s = start a in (
       omega arith,
       k .keeps-charge .kept .1 .1 .1 .1 .0 ∙ a .loop .inv .1,
-      more-marked _ _ (a .loop .s) _ _ _ (omega (arith, s .pre .1 .0 .1))
-          (ap (λ x. getD (a .loop .table) (a .loop .s) 0 + x) (c .mark-if .ensures .0 ∙ ap (λ (b : Bool). cond b (s .args .by) 0) kept))
-          (a .loop .inv .2),
+      marked-more _ _ _ _ _ _ _ (omega (arith, s .pre .2 .long)) (a .loop .inv .2) (c .before .before .raise .ensures)
+          (k .keeps-charge .ensures ∙ ap (λ (o : OwnDraw). keptBy (s .args .header) (drawWith (atTick (s .args .draws .now)) o)) (o .own-draw .ensures)),
     )
 
 same-length : tie.Need-same-length Inv-loop μ-loop
@@ -122,17 +94,11 @@ mark-trials-spec =
     slice-aggregate-fill-charges
     fill-charges-requires
     loop-holds
-    cast-own-draw
     own-draw-requires
     slice-aggregate-keeps-charge
     slice-aggregate-keeps-charge-2
     keeps-charge-requires
-    mul-table
-    slice-read-table
-    mark-if-requires
-    add-table
-    mul-table-2
-    slice-write-table
+    raise-requires
     add-s
     loop-less
     loop-again

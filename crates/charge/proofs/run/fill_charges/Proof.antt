@@ -10,9 +10,11 @@ use mir.Syntax.{w64}
 use mir.Val.{toZ}
 use mir.Facts.{toZ-pos}
 use Rattle.rules.proofs.Signed.{signed}
-use Rattle.charge.proofs.ChargeLaws.{ran-whole}
-use Rattle.charge.proofs.fill_charges.Statement.{statement}
-use Rattle.charge.proofs.fill_charges.Tie as tie
+use Rattle.charge.proofs.Running.{ran-same}
+use Rattle.charge.proofs.Drawn.{draws-alone}
+use Rattle.charge.proofs.Trying.{ran-whole}
+use Rattle.charge.proofs.run.fill_charges.Statement.{statement}
+use Rattle.charge.proofs.run.fill_charges.Tie as tie
 
 cast-horizon : tie.Need-cast-horizon
 cast-horizon c = search needs
@@ -42,7 +44,7 @@ returns : tie.Need-returns
 returns c =
     let e = c .before .run-ticks .ensures in
     let s = c .before .before .before .before .before .before in
-    record { size = same-length c ∙ s .pre .1; at = ran-whole _ _ _ _ _ (s .pre .0 .kept) (first-is s) (e .0 .0) (e .0 .1) (e .1) }
+    record { size = same-length c ∙ s .pre .1; at = ran-whole _ _ _ _ _ (s .pre .0 .kept) (first-is s) (e .0 .0) (ran-same _ _ _ _ _ _ _ (λ t _ _. draws-alone _ t) (e .0 .1)) (e .1) }
 
 pub fill-charges-spec : {M : Type 1} → statement M
 fill-charges-spec =

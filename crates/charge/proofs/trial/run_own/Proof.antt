@@ -3,11 +3,11 @@
 use borrow.Author.Needs.{needs}
 use native.Mathlib.Omega.{arith}
 use mathlib.Core.Path.{_≡_, sym}
-use Rattle.charge.specs.Charge.{drawWith}
-use Rattle.charge.proofs.ChargeLaws.{ran-same, ran-on, ran-most}
-use Rattle.charge.proofs.ChargeDraws.{draws-heating, draws-held}
-use Rattle.charge.proofs.run_own.Statement.{statement}
-use Rattle.charge.proofs.run_own.Tie as tie
+use Rattle.charge.specs.Charge.{atTick, drawWith}
+use Rattle.charge.proofs.Running.{ran-same, ran-on, ran-most}
+use Rattle.charge.proofs.Drawn.{draws-heating, draws-held}
+use Rattle.charge.proofs.trial.run_own.Statement.{statement}
+use Rattle.charge.proofs.trial.run_own.Tie as tie
 
 run-ticks-requires : tie.Need-run-ticks-requires
 run-ticks-requires c κs = search needs
@@ -40,7 +40,7 @@ returns-2 c =
     let s = m .before .before .before in
     let e = m .run-ticks .ensures in
     let f = n .run-ticks2 .ensures in
-    let all = drawWith (s .args .draws .now) (s .args .own) in
+    let all = drawWith (atTick (s .args .draws .now)) (s .args .own) in
     let z : m .run-ticks .result ≡ s .args .own .start = omega (arith, e .0 .0) in
     let p = ran-same (s .args .header) _ all _ _ _ _ (λ t k l. draws-heating _ _ t k (omega (arith, e .0 .0))) (e .0 .1) in
     let q = ran-same (s .args .header) _ all _ _ _ _ (λ t k l. draws-held _ _ t k (omega (arith, f .0 .0))) (f .0 .1) in

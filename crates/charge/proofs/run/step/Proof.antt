@@ -10,9 +10,9 @@ use mir.Facts.{toZ-ofZ, toZ-pos}
 use lib.Signed.{leZ}
 use Rattle.rules.proofs.Signed.{add-parts, less-parts, signed}
 use Rattle.charge.specs.Charge.{chargeNext}
-use Rattle.charge.proofs.ChargeLaws.{size-parts, smaller-yes, smaller-no}
-use Rattle.charge.proofs.step.Statement.{statement}
-use Rattle.charge.proofs.step.Tie as tie
+use Rattle.charge.proofs.Step.{size-parts, smaller-yes, smaller-no}
+use Rattle.charge.proofs.run.step.Statement.{statement}
+use Rattle.charge.proofs.run.step.Tie as tie
 
 cast-next : tie.Need-cast-next
 cast-next c = search needs

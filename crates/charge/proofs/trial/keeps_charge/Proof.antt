@@ -16,18 +16,20 @@ use mir.Syntax.{w64}
 use mir.Val.{toZ, ofZ}
 use mir.Facts.{toZ-ofZ}
 use Rattle.rules.proofs.Tests.{both-ways}
-use Rattle.charge.specs.Charge.{drawMore, drawWith}
-use Rattle.charge.proofs.ChargeLaws.{read-le, charge-most, Tried, tried-first, tried-on, tried-under, tried-back, tried-last}
-use Rattle.charge.proofs.ChargeDraws.{draws-before, draws-after}
-use Rattle.charge.proofs.keeps_charge.Statement.{statement}
-use Rattle.charge.proofs.keeps_charge.Tie as tie
+use Rattle.charge.specs.Charge.{atTick, drawWith}
+use Rattle.charge.proofs.Step.{read-le}
+use Rattle.charge.proofs.Running.{charge-most}
+use Rattle.charge.proofs.Trying.{Tried, tried-first, tried-on, tried-under, tried-back, tried-last}
+use Rattle.charge.proofs.Drawn.{draws-before, draws-after}
+use Rattle.charge.proofs.trial.keeps_charge.Statement.{statement}
+use Rattle.charge.proofs.trial.keeps_charge.Tie as tie
 
 -- the draws of the placed, and those with the activity added
 abbrev base : tie.Start → ℕ → ℕ
-base s = drawMore (s .args .draws .now) 0
+base s = atTick (s .args .draws .now)
 
 abbrev all : tie.Start → ℕ → ℕ
-all s = drawWith (s .args .draws .now) (s .args .own)
+all s = drawWith (atTick (s .args .draws .now)) (s .args .own)
 
 floor-small : (s : tie.Start) → s .args .header .floor < 2 ^ 63
 floor-small s = search needs

@@ -2,10 +2,10 @@
 -- Assumes nothing.
 use native.Mathlib.Omega.{arith}
 use Rattle.placed.proofs.Raising.{raised-most}
-use Rattle.charge.proofs.ChargeDraws.{raised-own}
+use Rattle.charge.proofs.Drawn.{raised-own}
 use borrow.Author.Needs.{needs}
-use Rattle.charge.proofs.add_draw.Statement.{statement}
-use Rattle.charge.proofs.add_draw.Tie as tie
+use Rattle.charge.proofs.draws.add_draw.Statement.{statement}
+use Rattle.charge.proofs.draws.add_draw.Tie as tie
 
 raise-ticks-requires : tie.Need-raise-ticks-requires
 raise-ticks-requires c κs = (search needs, λ t. omega (arith, c .before .before .pre .1 t))

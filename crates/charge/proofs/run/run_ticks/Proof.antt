@@ -7,13 +7,13 @@ use Prim.Native.Nat.{_+_, _-_, _≤_}
 use mir.Syntax.{w64}
 use mir.Val.{toZ}
 use Rattle.rules.proofs.Signed.{signed}
-use Rattle.charge.specs.Charge.{drawMore, chargeNext}
-use Rattle.charge.proofs.ChargeLaws.{AtTick, tick-first, tick-floor, tick-range, tick-more}
-use Rattle.charge.proofs.run_ticks.Statement.{statement}
-use Rattle.charge.proofs.run_ticks.Tie as tie
+use Rattle.charge.specs.Charge.{atTick, drawMore, chargeNext}
+use Rattle.charge.proofs.Running.{AtTick, tick-first, tick-floor, tick-range, tick-more}
+use Rattle.charge.proofs.run.run_ticks.Statement.{statement}
+use Rattle.charge.proofs.run.run_ticks.Tie as tie
 
 abbrev Inv-ticks : tie.InvT-ticks
-Inv-ticks draws header by from to charge₀ floor more t₀ c₀ charge t c = (t ≤ to) × AtTick header (drawMore draws by) from t c charge₀ charge
+Inv-ticks draws header by from to charge₀ floor more t₀ c₀ charge t c = (t ≤ to) × AtTick header (drawMore (atTick draws) by) from t c charge₀ charge
 
 abbrev μ-ticks : tie.MeasureT-ticks
 μ-ticks draws header by from to charge₀ floor more t₀ c₀ charge t c = to - t

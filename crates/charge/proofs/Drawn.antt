@@ -1,0 +1,87 @@
+-- What is drawn in each tick: by one activity, with it added, and by the rows of the tables.
+-- Assumes nothing.
+use Prim.Native.Nat.{ℕ, zero, suc, _+_, _*_, _≤_, _<_}
+use mathlib.Core.Path.{_≡_, refl, ap, _∙_}
+use mathlib.Core.Bool.{Bool, true, false, cond}
+use mathlib.Core.List.{List}
+use native.Mathlib.Numerals.{add-one}
+use native.Mathlib.Omega.{arith}
+use lib.Dec.{leb, ltb}
+use lib.ListN.{length, getD}
+use borrow.Author.Tests.{ltb-true, ltb-false, le-leb, lt-leb, lt-ltb, le-ltb}
+use Rattle.rules.specs.WellFormed.{HeaderFormed}
+use Rattle.activity.specs.View.{headerView}
+use Rattle.activity.specs.declared.Header.{Header as HeaderStruct}
+use Rattle.placed.specs.Bounds.{AmountsBounded}
+use Rattle.placed.specs.Raised.{Raised}
+use Rattle.placed.proofs.Raising.{cond-most}
+use Rattle.charge.specs.declared.draws.OwnDraw.{OwnDraw}
+use Rattle.charge.specs.Charge.{rowDraw, drawOf, drawnIn, drawMore, drawWith, keptBy, Drawing}
+
+-- raised by the heater's draw, then by its own
+pub raised-own : (o : OwnDraw) (old mid new : List ℕ) → Raised (o .heat) (o .start) (o .heater) old mid → Raised (o .start) (o .end) (o .draw) mid new → (t : ℕ) → getD new t 0 ≡ drawOf o t + getD old t 0
+unfolding drawOf
+raised-own o old mid new p q t = go (ltb t (o .start)) refl (leb (o .heat) t) refl
+  where
+    go : (a : Bool) → ltb t (o .start) ≡ a → (b : Bool) → leb (o .heat) t ≡ b → getD new t 0 ≡ cond a (cond b (o .heater) 0) (cond (ltb t (o .end)) (o .draw) 0) + getD old t 0
+    go true e true f = omega (arith, simp (e, f) at (p .at t), simp (lt-leb (o .start) t (ltb-true _ _ e)) at (q .at t))
+    go true e false f = omega (arith, simp (e, f) at (p .at t), simp (lt-leb (o .start) t (ltb-true _ _ e)) at (q .at t))
+    go false e true f = omega (arith, simp (e, f) at (p .at t), simp (le-leb (o .start) t (ltb-false _ _ e)) at (q .at t))
+    go false e false f = omega (arith, simp (e, f) at (p .at t), simp (le-leb (o .start) t (ltb-false _ _ e)) at (q .at t))
+
+-- in the ticks before it draws, while its heater works, while it is held, and after it
+module _ (draw : ℕ → ℕ) (o : OwnDraw) (t : ℕ) where
+  pub draws-before : o .heat ≤ o .start → t < o .heat → draw t ≡ drawWith draw o t
+  unfolding drawOf drawWith
+  draws-before h l = rw (lt-ltb t (o .start) (omega arith), lt-leb (o .heat) t l) (omega arith)
+
+  pub draws-heating : o .heat ≤ t → t < o .start → drawMore draw (o .heater) t ≡ drawWith draw o t
+  unfolding drawOf drawMore drawWith
+  draws-heating h l = rw (lt-ltb t (o .start) l, le-leb (o .heat) t h)
+
+  pub draws-held : o .start ≤ t → t < o .end → drawMore draw (o .draw) t ≡ drawWith draw o t
+  unfolding drawOf drawMore drawWith
+  draws-held h l = rw (le-ltb t (o .start) h, lt-ltb t (o .end) l)
+
+  pub draws-after : o .start ≤ o .end → o .end ≤ t → draw t ≡ drawWith draw o t
+  unfolding drawOf drawWith
+  draws-after h l = rw (le-ltb t (o .start) (omega arith), le-ltb t (o .end) l) (omega arith)
+
+-- nothing more is drawn
+pub draws-alone : (draw : ℕ → ℕ) (t : ℕ) → drawMore draw 0 t ≡ draw t
+unfolding drawMore
+draws-alone draw t = omega arith
+
+-- ---- by the rows
+module _ (h : HeaderStruct) (ticks amounts : List ℕ) where
+  pub drawn-none : (t : ℕ) → drawnIn h ticks amounts 0 t ≡ 0
+  unfolding drawnIn
+  drawn-none t = refl
+
+  pub drawn-more : (n t : ℕ) → drawnIn h ticks amounts (n + 1) t ≡ drawOf (rowDraw h ticks amounts n) t + drawnIn h ticks amounts n t
+  unfolding drawnIn
+  drawn-more n t = rw add-one
+
+  draw-most : (o : OwnDraw) (t : ℕ) → o .draw ≤ 1000000 → o .heater ≤ 1000000 → drawOf o t ≤ 1000000
+  unfolding drawOf
+  draw-most o t d e = go (ltb t (o .start))
+    where
+      go : (b : Bool) → cond b (cond (leb (o .heat) t) (o .heater) 0) (cond (ltb t (o .end)) (o .draw) 0) ≤ 1000000
+      go true = cond-most (leb (o .heat) t) (o .heater) 1000000 e
+      go false = cond-most (ltb t (o .end)) (o .draw) 1000000 d
+
+  -- at most a million for each
+  pub drawn-few : (m n : ℕ) → AmountsBounded amounts m → h .heater ≤ 1000000 → n ≤ m → (t : ℕ) → drawnIn h ticks amounts n t ≤ n * 1000000
+  unfolding drawnIn
+  drawn-few m zero b l k t = omega arith
+  drawn-few m (suc n) b l k t = omega (arith, draw-most (rowDraw h ticks amounts n) t (b .draw n (omega arith)) l, drawn-few m n b l (omega arith) t)
+
+pub amounts-fewer : (amounts : List ℕ) (m n : ℕ) → n ≤ m → AmountsBounded amounts m → AmountsBounded amounts n
+amounts-fewer amounts m n k b =
+    record { engines = λ i l. b .engines i (omega arith); peak = λ i l. b .peak i (omega arith); draw = λ i l. b .draw i (omega arith) }
+
+-- an array of the draws of a schedule that keeps its charge
+pub drawing : (h : HeaderStruct) (draws : List ℕ) (all : ℕ → ℕ) → ((t : ℕ) → getD draws t 0 ≡ all t) → length draws ≡ 4096 → HeaderFormed (headerView h) → keptBy h all ≡ true → Drawing draws h
+unfolding headerView
+drawing h draws all is size f k =
+    record { known = omega (arith, f .horizon); short = f .horizon .1; first = f .first .1; kept = ap (keptBy h) (λ i t. is t i) ∙ k }
