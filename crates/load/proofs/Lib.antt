@@ -1,3 +1,2 @@
-pub mod Ready
-pub mod Loads
-pub mod Clear
+pub mod Since
+pub mod Loading

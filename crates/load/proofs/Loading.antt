@@ -1,0 +1,60 @@
+-- The weights of the rows, and the load of each tick, filled in row by row.
+-- Assumes nothing.
+use Prim.Native.Nat.{ℕ, zero, suc, _+_, _<_, _≤_}
+use mathlib.Core.Path.{_≡_, refl, sym, _∙_, ap}
+use mathlib.Core.Bool.{cond, _&&_}
+use mathlib.Core.List.{List}
+use native.Mathlib.Omega.{arith}
+use native.Mathlib.Numerals.{add-one}
+use lib.Dec.{leb, ltb}
+use lib.ListN.{length, getD, set, length-set}
+use lib.Seq.{getD-set-same, getD-set-other}
+use borrow.Author.Count.{below-none, below-more}
+use Rattle.placed.specs.Tables.{startAt, endAt}
+use Rattle.placed.specs.Raised.{Raised}
+use Rattle.rules.proofs.Lists.{each-same}
+use Rattle.load.specs.Loads.{loadIn, numberAt, Weighed, Loaded}
+use Rattle.load.specs.Clear.{fits, clearFor}
+
+-- no row is weighed yet, and one row more is
+pub weighed-none : (weights : ℕ → ℕ) (column : List ℕ) → length column ≡ 64 → Weighed weights 0 column
+weighed-none weights column l = record { size = l; at = below-none _ }
+
+pub weighed-more : (weights : ℕ → ℕ) (n : ℕ) (column : List ℕ) (w : ℕ) → n < 64 → Weighed weights n column → w ≡ weights n → Weighed weights (n + 1) (set column n w)
+weighed-more weights n column w k f e = record {
+  size = length-set column n w ∙ f .size;
+  at =
+      below-more (λ i. numberAt (set column n w) i ≡ weights i) n (λ i h. getD-set-other column n i w 0 (omega arith) ∙ f .at i h)
+      (getD-set-same column n w 0 (omega (arith, f .size)) ∙ e);
+}
+
+module _ (ticks : List ℕ) where
+  -- weights that agree on the rows make the same load
+  pub load-same : (v w : ℕ → ℕ) (n t : ℕ) → ((i : ℕ) → i < n → v i ≡ w i) → loadIn ticks v n t ≡ loadIn ticks w n t
+  unfolding loadIn
+  load-same v w zero t f = refl
+  load-same v w (suc n) t f = rw (f n (omega arith), load-same v w n t (λ i k. f i (omega arith)))
+
+  module _ (weights : ℕ → ℕ) where
+    -- no row, and one row more
+    load-none : (t : ℕ) → loadIn ticks weights 0 t ≡ 0
+    unfolding loadIn
+    load-none t = refl
+
+    load-more : (n t : ℕ) → loadIn ticks weights (n + 1) t ≡ cond (leb (startAt ticks n) t && ltb t (endAt ticks n)) (weights n) 0 + loadIn ticks weights n t
+    unfolding loadIn
+    load-more n t = rw add-one
+
+    pub loaded-none : (loads : List ℕ) → length loads ≡ 4096 → ((t : ℕ) → getD loads t 0 ≡ 0) → Loaded ticks weights 0 loads
+    loaded-none loads l z = record { size = l; sum = λ t. z t ∙ sym (load-none t) }
+
+    pub loaded-more : (n : ℕ) (loads next : List ℕ) → Loaded ticks weights n loads → Raised (startAt ticks n) (endAt ticks n) (weights n) loads next → Loaded ticks weights (n + 1) next
+    loaded-more n loads next f r = record {
+      size = r .size ∙ f .size;
+      sum = λ t. omega (arith, r .at t, f .sum t, load-more n t);
+    }
+
+-- loads that agree have the same clear starts
+pub clear-same : (f g : ℕ → ℕ) (weight limit d s : ℕ) → ((t : ℕ) → f t ≡ g t) → clearFor (fits f weight limit) d s ≡ clearFor (fits g weight limit) d s
+unfolding clearFor fits
+clear-same f g weight limit d s e = each-same _ _ d (λ i k. ap (λ (x : ℕ). leb (weight + x) limit) (e (s + i)))
