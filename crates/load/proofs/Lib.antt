@@ -1,2 +1,4 @@
 pub mod Since
 pub mod Loading
+pub mod Units
+pub mod Meets

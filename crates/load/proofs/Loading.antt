@@ -1,6 +1,6 @@
 -- The weights of the rows, and the load of each tick, filled in row by row.
 -- Assumes nothing.
-use Prim.Native.Nat.{ℕ, zero, suc, _+_, _<_, _≤_}
+use Prim.Native.Nat.{ℕ, zero, suc, _+_, _*_, _<_, _≤_}
 use mathlib.Core.Path.{_≡_, refl, sym, _∙_, ap}
 use mathlib.Core.Bool.{cond, _&&_}
 use mathlib.Core.List.{List}
@@ -10,10 +10,11 @@ use lib.Dec.{leb, ltb}
 use lib.ListN.{length, getD, set, length-set}
 use lib.Seq.{getD-set-same, getD-set-other}
 use borrow.Author.Count.{below-none, below-more}
-use Rattle.placed.specs.Tables.{startAt, endAt}
+use Rattle.placed.specs.Tables.{startAt, endAt, enginesAt}
 use Rattle.placed.specs.Raised.{Raised}
+use Rattle.placed.proofs.Raising.{cond-most}
 use Rattle.rules.proofs.Lists.{each-same}
-use Rattle.load.specs.Loads.{loadIn, numberAt, Weighed, Loaded}
+use Rattle.load.specs.Loads.{loadIn, amountAt, shareUnit, sharing, numberAt, Weighed, WeightsBounded, Loaded}
 use Rattle.load.specs.Clear.{fits, clearFor}
 
 -- no row is weighed yet, and one row more is
@@ -58,3 +59,24 @@ module _ (ticks : List ℕ) where
 pub clear-same : (f g : ℕ → ℕ) (weight limit d s : ℕ) → ((t : ℕ) → f t ≡ g t) → clearFor (fits f weight limit) d s ≡ clearFor (fits g weight limit) d s
 unfolding clearFor fits
 clear-same f g weight limit d s e = each-same _ _ d (λ i k. ap (λ (x : ℕ). leb (weight + x) limit) (e (s + i)))
+
+-- a column of the weights has their bounds and their clear starts
+pub weighed-bounded : (weights : ℕ → ℕ) (n : ℕ) (column : List ℕ) → Weighed weights n column → WeightsBounded weights n → WeightsBounded (numberAt column) n
+weighed-bounded weights n column f b i k = omega (arith, f .at i k, b i k)
+
+pub weighed-clear : (ticks : List ℕ) (weights : ℕ → ℕ) (n : ℕ) (column : List ℕ) (weight limit d s : ℕ) → Weighed weights n column → clearFor (fits (loadIn ticks (numberAt column) n) weight limit) d s ≡ clearFor (fits (loadIn ticks weights n) weight limit) d s
+weighed-clear ticks weights n column weight limit d s f = clear-same _ _ weight limit d s (λ t. load-same ticks (numberAt column) weights n t (f .at))
+
+-- the engines are column 0 of the amounts
+pub engines-at : (amounts : List ℕ) (i : ℕ) → amountAt amounts 0 i ≡ enginesAt amounts i
+engines-at amounts i = let e : i * 4 + 0 ≡ i * 4 = omega arith in ap (λ (x : ℕ). getD amounts x 0) e
+
+pub engines-clear : (ticks amounts : List ℕ) (n limit d s : ℕ) → clearFor (fits (loadIn ticks (amountAt amounts 0) n) (amountAt amounts 0 n) limit) d s ≡ clearFor (fits (loadIn ticks (enginesAt amounts) n) (enginesAt amounts n) limit) d s
+engines-clear ticks amounts n limit d s =
+    clear-same _ _ (amountAt amounts 0 n) limit d s (λ t. load-same ticks (amountAt amounts 0) (enginesAt amounts) n t (λ i k. engines-at amounts i))
+    ∙ ap (λ (x : ℕ). clearFor (fits (loadIn ticks (enginesAt amounts) n) x limit) d s) (engines-at amounts n)
+
+-- whether a unit is shared weighs at most 1
+pub sharing-bounded : (units : List ℕ) (n : ℕ) → WeightsBounded (sharing units n) n
+unfolding sharing
+sharing-bounded units n i k = cond-most (shareUnit units i n) 1 1000000 (omega arith)

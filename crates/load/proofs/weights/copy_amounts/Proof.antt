@@ -45,7 +45,7 @@ loop-again : tie.Need-loop-again Inv-loop μ-loop
 loop-again c = let at = c .before .before in (omega arith, weighed-more _ _ _ _ (omega arith) (at .loop .inv .1) refl)
 
 returns : tie.Need-returns Inv-loop μ-loop
-returns c = let e : c .before .before .args .n ≡ c .before .loop .i = omega arith in rw e (c .before .loop .inv .1)
+returns c = let w = c .before .loop .inv .1 in record { size = w .size; at = λ k l. w .at k (omega arith) }
 
 pub copy-amounts-spec : {M : Type 1} → statement M
 copy-amounts-spec =
