@@ -1,7 +1,7 @@
 -- The weights of the rows, and the load of each tick, filled in row by row.
 -- Assumes nothing.
 use Prim.Native.Nat.{ℕ, zero, suc, _+_, _*_, _<_, _≤_}
-use mathlib.Core.Path.{_≡_, refl, sym, _∙_, ap}
+use mathlib.Core.Path.{_≡_, refl, sym, _∙_, ap, subst}
 use mathlib.Core.Bool.{cond, _&&_}
 use mathlib.Core.List.{List}
 use native.Mathlib.Omega.{arith}
@@ -11,8 +11,10 @@ use lib.ListN.{length, getD, set, length-set}
 use lib.Seq.{getD-set-same, getD-set-other}
 use borrow.Author.Count.{below-none, below-more}
 use Rattle.placed.specs.Tables.{startAt, endAt, enginesAt}
+use Rattle.placed.specs.Bounds.{AmountsBounded}
 use Rattle.placed.specs.Raised.{Raised}
 use Rattle.placed.proofs.Raising.{cond-most}
+use Rattle.rules.proofs.Tests.{last-or}
 use Rattle.rules.proofs.Lists.{each-same}
 use Rattle.load.specs.Loads.{loadIn, amountAt, shareUnit, sharing, numberAt, Weighed, WeightsBounded, Loaded}
 use Rattle.load.specs.Clear.{fits, clearFor}
@@ -68,8 +70,14 @@ pub weighed-clear : (ticks : List ℕ) (weights : ℕ → ℕ) (n : ℕ) (column
 weighed-clear ticks weights n column weight limit d s f = clear-same _ _ weight limit d s (λ t. load-same ticks (numberAt column) weights n t (f .at))
 
 -- the engines are column 0 of the amounts
-pub engines-at : (amounts : List ℕ) (i : ℕ) → amountAt amounts 0 i ≡ enginesAt amounts i
+engines-at : (amounts : List ℕ) (i : ℕ) → amountAt amounts 0 i ≡ enginesAt amounts i
 engines-at amounts i = let e : i * 4 + 0 ≡ i * 4 = omega arith in ap (λ (x : ℕ). getD amounts x 0) e
+
+-- either column is at most a million
+pub amounts-bounded : (amounts : List ℕ) (c n : ℕ) → c < 2 → AmountsBounded amounts (n + 1) → WeightsBounded (amountAt amounts c) n
+amounts-bounded amounts c n k b i l =
+    last-or (λ d. amountAt amounts d i ≤ 1000000) 1 c k (b .peak i (omega arith))
+    (λ m. let z : 0 ≡ c = omega arith in subst (λ (d : ℕ). amountAt amounts d i ≤ 1000000) z (rw (engines-at amounts i) (b .engines i (omega arith))))
 
 pub engines-clear : (ticks amounts : List ℕ) (n limit d s : ℕ) → clearFor (fits (loadIn ticks (amountAt amounts 0) n) (amountAt amounts 0 n) limit) d s ≡ clearFor (fits (loadIn ticks (enginesAt amounts) n) (enginesAt amounts n) limit) d s
 engines-clear ticks amounts n limit d s =

@@ -1,13 +1,13 @@
 -- U, E and P: a start meets them exactly when, with the candidate, the load of each of its ticks is within the limit.
 -- Assumes nothing.
 use Prim.Native.Nat.{ℕ, zero, suc, _+_, _-_, _<_, _≤_}
-use mathlib.Core.Path.{_≡_, refl, sym, _∙_, ap, subst}
+use mathlib.Core.Path.{_≡_, refl, _∙_, ap, subst}
 use mathlib.Core.Bool.{Bool, true, false, cond, _&&_, not}
 use mathlib.Core.List.{List, [], _∷_, List·Memᴰ, List·Memᴰ·head, List·Memᴰ·tail}
 use native.Mathlib.Omega.{arith}
-use lib.Dec.{leb, ltb}
+use lib.Dec.{leb}
 use borrow.Author.Tests.{le-leb, leb-true}
-use Rattle.rules.specs.Plan.{Header, Activity, Entry, Schedule, at, end}
+use Rattle.rules.specs.Plan.{Header, Activity, Entry, Schedule, at}
 use Rattle.rules.specs.Tests.{ever, total}
 use Rattle.rules.specs.Hold.{holds}
 use Rattle.rules.specs.Load.{load, loadKept}
@@ -18,10 +18,10 @@ use Rattle.rules.specs.WellFormed.{ActivityFormed}
 use Rattle.rules.proofs.Tests.{each-at, each-all, ever-at, and-left, and-right, and-both, both-ways, every-mem, not-ever}
 use Rattle.rules.proofs.Every.{every-all}
 use Rattle.rules.proofs.Local.{bool-ext, holds-of, holds-from, holds-till, loadKept-more, loadKept-own}
-use Rattle.placed.specs.Tables.{startAt, endAt, enginesAt, peakAt}
+use Rattle.placed.specs.Tables.{enginesAt, peakAt}
 use Rattle.placed.specs.Held.{TicksAt, AmountsAt, UnitsAt, Rows, Reached}
 use Rattle.placed.proofs.Rows.{rows-map}
-use Rattle.load.specs.Loads.{loadIn, shareUnit, sharing}
+use Rattle.load.specs.Loads.{loadIn, sharing}
 use Rattle.load.specs.Clear.{fits, clearFor}
 use Rattle.load.proofs.Loading.{clear-same}
 use Rattle.load.proofs.Units.{share-unit}

@@ -5,7 +5,6 @@ mod weights;
 
 use rules::PLACES;
 use rules::TICKS;
-ghost use mathlib.Core.Path.{_≡_};
 ghost use Prim.Native.Nat.{_+_, _<_, _≤_};
 ghost use Rattle.sets.specs.Table.{Marked, Markable};
 ghost use Rattle.placed.specs.Tables.{enginesAt, peakAt};
@@ -65,14 +64,14 @@ fn mark_amounts<'a>(
     by: u16,
     table: &mut [u16],
 )
-    requires { ⌜ (c < 4) × (n < 64) × TicksBounded (now ticks) n × WeightsBounded (amountAt (now amounts) c) n ⌝ }
+    requires { ⌜ (c < 2) × (n < 64) × TicksBounded (now ticks) n × AmountsBounded (now amounts) (n + 1) ⌝ }
     requires { ⌜ (1 ≤ duration) × (count + duration ≤ 4097) × Markable by count (now table) ⌝ }
     ensures { λ _. ⌜ Marked (clearFor (fits (loadIn (now (ticks .entry)) (amountAt (now (amounts .entry)) c) n) (amountAt (now (amounts .entry)) c n) limit) duration) by count (now (table .entry)) (now (table .exit)) ⌝ }
 {
     let mut weights = [0u32; PLACES];
     weights::copy_amounts(amounts, c, n, &mut weights);
-    let weight = amounts[n * 4 + c];
-    mark_load(ticks, &weights, n, duration, weight, limit, count, by, table);
+    let own = amounts[n * 4 + c];
+    mark_load(ticks, &weights, n, duration, own, limit, count, by, table);
 }
 
 // Marks the starts that meet E.

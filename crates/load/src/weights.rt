@@ -9,7 +9,7 @@ use rules::PLACES;
 
 // Copies column c of the amounts of the first n rows.
 pub fn copy_amounts(amounts: &[u32; 256], c: usize, n: usize, weights: &mut [u32; PLACES])
-    requires { ⌜ (c < 4) × (n ≤ 64) × (length (now weights) ≡ 64) ⌝ }
+    requires { ⌜ (c < 2) × (n ≤ 64) × (length (now weights) ≡ 64) ⌝ }
     ensures { λ _. ⌜ Weighed (amountAt (now (amounts .entry)) c) n (now (weights .exit)) ⌝ }
 {
     for i in 0..n {

@@ -1,7 +1,7 @@
 -- `mark_amounts` meets its contract.
 -- Assumes nothing.
 use Rattle.sets.proofs.Marking.{same-marked}
-use Rattle.load.proofs.Loading.{weighed-bounded, weighed-clear}
+use Rattle.load.proofs.Loading.{amounts-bounded, weighed-bounded, weighed-clear}
 use borrow.Author.Needs.{needs}
 use Rattle.load.proofs.mark_amounts.Statement.{statement}
 use Rattle.load.proofs.mark_amounts.Tie as tie
@@ -9,20 +9,21 @@ use Rattle.load.proofs.mark_amounts.Tie as tie
 copy-amounts-requires : tie.Need-copy-amounts-requires
 copy-amounts-requires c κs = search needs
 
-mul-weight : tie.Need-mul-weight
-mul-weight c = search needs
+mul-own : tie.Need-mul-own
+mul-own c = search needs
 
-add-weight : tie.Need-add-weight
-add-weight c = search needs
+add-own : tie.Need-add-own
+add-own c = search needs
 
-mul-weight-2 : tie.Need-mul-weight-2
-mul-weight-2 c = search needs
+mul-own-2 : tie.Need-mul-own-2
+mul-own-2 c = search needs
 
-element-copy-out-weight : tie.Need-element-copy-out-weight
-element-copy-out-weight c = search needs
+element-copy-out-own : tie.Need-element-copy-out-own
+element-copy-out-own c = search needs
 
 mark-load-requires : tie.Need-mark-load-requires
-mark-load-requires c κs = let s = c .before .before .before .before .before .before in ((s .pre .0 .2, weighed-bounded _ _ _ (c .before .before .before .copy-amounts .ensures) (s .pre .0 .3)), s .pre .1)
+mark-load-requires c κs = let s = c .before .before .before .before .before .before in
+    ((s .pre .0 .2, weighed-bounded _ _ _ (c .before .before .before .copy-amounts .ensures) (amounts-bounded _ _ _ (s .pre .0 .0) (s .pre .0 .3))), s .pre .1)
 
 same-length : tie.Need-same-length
 same-length c = search needs
@@ -35,10 +36,10 @@ mark-amounts-spec =
     tie.close
     (tie.spec
     copy-amounts-requires
-    mul-weight
-    add-weight
-    mul-weight-2
-    element-copy-out-weight
+    mul-own
+    add-own
+    mul-own-2
+    element-copy-out-own
     mark-load-requires
     same-length
     returns)

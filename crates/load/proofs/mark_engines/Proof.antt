@@ -1,14 +1,13 @@
 -- `mark_engines` meets its contract.
 -- Assumes nothing.
 use Rattle.sets.proofs.Marking.{same-marked}
-use Rattle.load.proofs.Loading.{engines-at, engines-clear}
-use native.Mathlib.Omega.{arith}
+use Rattle.load.proofs.Loading.{engines-clear}
 use borrow.Author.Needs.{needs}
 use Rattle.load.proofs.mark_engines.Statement.{statement}
 use Rattle.load.proofs.mark_engines.Tie as tie
 
 mark-amounts-requires : tie.Need-mark-amounts-requires
-mark-amounts-requires c κs = let s = c .before .before in ((omega arith, s .pre .0 .0, s .pre .0 .1, λ i k. rw engines-at (s .pre .0 .2 .engines i (omega arith))), s .pre .1)
+mark-amounts-requires c κs = search needs
 
 same-length : tie.Need-same-length
 same-length c = search needs

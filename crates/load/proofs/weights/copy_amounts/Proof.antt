@@ -1,7 +1,7 @@
 -- `copy_amounts` meets its contract: the rows passed are weighed.
 -- Assumes nothing.
 use Prim.Native.Nat.{_-_, _≤_}
-use mathlib.Core.Path.{_≡_, refl}
+use mathlib.Core.Path.{refl}
 use Rattle.load.specs.Loads.{amountAt, Weighed}
 use Rattle.load.proofs.Loading.{weighed-none, weighed-more}
 use native.Mathlib.Omega.{arith}

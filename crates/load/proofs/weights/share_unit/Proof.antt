@@ -2,7 +2,7 @@
 -- Assumes nothing.
 use Prim.Native.Nat.{ℕ, _-_, _<_, _≤_}
 use mathlib.Core.Path.{_≡_, sym, _∙_}
-use mathlib.Core.Bool.{true, false, _&&_}
+use mathlib.Core.Bool.{false, _&&_}
 use lib.Dec.{eqb}
 use borrow.Author.Count.{below-none, below-more}
 use Rattle.rules.proofs.Tests.{ever-at, not-ever, both-ways}
