@@ -1,3 +1,4 @@
-pub mod Ready
-pub mod Loads
-pub mod Clear
+pub mod Since
+pub mod Loading
+pub mod Units
+pub mod Meets

@@ -1,26 +1,12 @@
--- Loads tick by tick, and the starts from which each tick of a candidate has room.
+-- The starts from which each tick of a candidate has its load within the limit.
 use Prim.Native.Nat.{ℕ, zero, suc, _+_}
-use mathlib.Core.Path.{_≡_}
 use mathlib.Core.Bool.{Bool, cond}
-use mathlib.Core.List.{List}
 use lib.Dec.{leb}
-use lib.ListN.{length, getD}
-use Rattle.rules.specs.Plan.{Activity, Schedule}
 use Rattle.rules.specs.Tests.{each}
-use Rattle.rules.specs.Load.{load}
 
--- each tick's load
-pub record Loaded (quantity : Activity → ℕ) (placed : Schedule) (loads : List ℕ) : Type 0 where
-  pub size : length loads ≡ 4096
-  pub sum : (t : ℕ) → getD loads t 0 ≡ load quantity placed t
-
--- at tick t there is room for a weight beside the loads
-unfoldable pub room : List ℕ → ℕ → ℕ → ℕ → Bool
-room loads weight limit t = leb (weight + getD loads t 0) limit
-
--- at tick t there is room for a weight beside the placed
-unfoldable pub loadClear : (Activity → ℕ) → Schedule → ℕ → ℕ → ℕ → Bool
-loadClear quantity placed weight limit t = leb (weight + load quantity placed t) limit
+-- with the weight, the load of tick t is within the limit
+unfoldable pub fits : (ℕ → ℕ) → ℕ → ℕ → ℕ → Bool
+fits loads weight limit t = leb (weight + loads t) limit
 
 -- the test holds at d ticks from s on
 unfoldable pub clearFor : (ℕ → Bool) → ℕ → ℕ → Bool

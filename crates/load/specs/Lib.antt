@@ -1,2 +1,2 @@
-pub mod Quantity
+pub mod Loads
 pub mod Clear

@@ -1,27 +1,20 @@
--- `mark_engines` meets its contract: E is the law of a sum at the engines.
+-- `mark_engines` meets its contract.
 -- Assumes nothing.
-use Rattle.rules.specs.MeetsE.{enginesKept, meetsE}
-use Rattle.plan.specs.View.{headerView, activityView}
-use Rattle.placed.specs.View.{scheduleView}
-use Rattle.load.specs.Quantity.{quantityOf}
-use Rattle.placed.proofs.Marking.{same-marked}
-use Rattle.load.proofs.Ready.{starts-end, load-ready}
-use Rattle.load.proofs.Clear.{load-is}
+use Rattle.sets.proofs.Marking.{same-marked}
+use Rattle.load.proofs.Loading.{engines-clear}
 use borrow.Author.Needs.{needs}
-use native.Mathlib.Omega.{arith}
 use Rattle.load.proofs.mark_engines.Statement.{statement}
 use Rattle.load.proofs.mark_engines.Tie as tie
 
-mark-load-requires : tie.Need-mark-load-requires
-mark-load-requires c κs = let s = c .before .before in (load-ready _ _ _ _ (s .pre .0) (s .pre .1), s .pre .2)
+mark-amounts-requires : tie.Need-mark-amounts-requires
+mark-amounts-requires c κs = search needs
 
 same-length : tie.Need-same-length
 same-length c = search needs
 
 returns : tie.Need-returns
-unfolding meetsE enginesKept headerView activityView quantityOf
-returns c = let s = c .before .before .before .before .before in
-    same-marked _ _ _ _ _ _ (λ t k. load-is (λ a. a .engines) (s .args .header .engines) (headerView (s .args .header)) (scheduleView (s .args .schedule)) (activityView (s .args .candidate)) t (s .pre .0 .reached .kept .engines) (starts-end (s .args .header) (s .args .candidate) t (s .pre .0 .candidate) (omega (arith, s .pre .1)))) (c .before .before .mark-load .ensures)
+returns c = let a = c .before .before .before .before .before .args in
+    same-marked _ _ _ _ _ _ (λ s k. engines-clear _ (a .amounts .now) (a .n) _ _ s) (c .before .before .mark-amounts .ensures)
 
 pub mark-engines-spec : {M : Type 1} → statement M
-mark-engines-spec = tie.close (tie.spec mark-load-requires same-length returns)
+mark-engines-spec = tie.close (tie.spec mark-amounts-requires same-length returns)

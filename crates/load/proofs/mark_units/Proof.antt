@@ -1,25 +1,23 @@
--- `mark_units` meets its contract: U is a limit of 0 on those that share a unit.
+-- `mark_units` meets its contract.
 -- Assumes nothing.
-use Rattle.plan.specs.View.{headerView, activityView}
-use Rattle.placed.specs.View.{scheduleView}
-use Rattle.placed.proofs.Marking.{same-marked}
-use Rattle.load.proofs.Ready.{starts-end, load-ready}
-use Rattle.load.proofs.Clear.{units-is}
+use Rattle.sets.proofs.Marking.{same-marked}
+use Rattle.load.proofs.Loading.{weighed-bounded, weighed-clear, sharing-bounded}
 use borrow.Author.Needs.{needs}
-use native.Mathlib.Omega.{arith}
 use Rattle.load.proofs.mark_units.Statement.{statement}
 use Rattle.load.proofs.mark_units.Tie as tie
 
+weigh-sharing-requires : tie.Need-weigh-sharing-requires
+weigh-sharing-requires c κs = search needs
+
 mark-load-requires : tie.Need-mark-load-requires
-mark-load-requires c κs = let s = c .before .before in (load-ready _ _ _ _ (s .pre .0) (s .pre .1), s .pre .2)
+mark-load-requires c κs = let s = c .before .before .before .before .before in ((s .pre .0 .1, weighed-bounded _ _ _ (c .before .before .weigh-sharing .ensures) (sharing-bounded _ _)), s .pre .1)
 
 same-length : tie.Need-same-length
 same-length c = search needs
 
 returns : tie.Need-returns
-unfolding headerView activityView
-returns c = let s = c .before .before .before .before .before in
-    same-marked _ _ _ _ _ _ (λ t k. units-is (headerView (s .args .header)) (scheduleView (s .args .schedule)) (activityView (s .args .candidate)) t (starts-end (s .args .header) (s .args .candidate) t (s .pre .0 .candidate) (omega (arith, s .pre .1)))) (c .before .before .mark-load .ensures)
+returns c = same-marked _ _ _ _ _ _ (λ s k. weighed-clear _ _ _ _ _ _ _ s (c .before .before .before .before .before .weigh-sharing .ensures)) (c .before .before .mark-load .ensures)
 
 pub mark-units-spec : {M : Type 1} → statement M
-mark-units-spec = tie.close (tie.spec mark-load-requires same-length returns)
+mark-units-spec =
+    tie.close (tie.spec weigh-sharing-requires mark-load-requires same-length returns)

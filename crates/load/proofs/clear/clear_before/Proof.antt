@@ -2,17 +2,18 @@
 -- Assumes nothing.
 use Prim.Native.Nat.{_-_, _≤_}
 use mathlib.Core.Path.{_≡_, sym}
-use Rattle.load.specs.Clear.{room, clearSince}
-use Rattle.load.proofs.Clear.{since-none, since-more}
+use Rattle.load.specs.Loads.{numberAt}
+use Rattle.load.specs.Clear.{fits, clearSince}
+use Rattle.load.proofs.Since.{since-none, since-more}
 use native.Mathlib.Omega.{arith}
-use Rattle.load.proofs.room.clear_before.Statement.{statement}
-use Rattle.load.proofs.room.clear_before.Tie as tie
+use Rattle.load.proofs.clear.clear_before.Statement.{statement}
+use Rattle.load.proofs.clear.clear_before.Tie as tie
 
 abbrev Inv-loop : tie.InvT-loop
-Inv-loop load to weight limit since₀ t₀ since t = (t ≤ to) × (since ≡ clearSince (room load weight limit) t)
+Inv-loop loads to weight limit since₀ t₀ since t = (t ≤ to) × (since ≡ clearSince (fits (numberAt loads) weight limit) t)
 
 abbrev μ-loop : tie.MeasureT-loop
-μ-loop load to weight limit since₀ t₀ since t = to - t
+μ-loop loads to weight limit since₀ t₀ since t = to - t
 
 loop-holds : tie.Need-loop-holds Inv-loop μ-loop
 loop-holds c = (omega arith, sym (since-none _))
@@ -36,7 +37,7 @@ loop-less : tie.Need-loop-less Inv-loop μ-loop
 loop-less c = omega arith
 
 loop-again : tie.Need-loop-again Inv-loop μ-loop
-unfolding room
+unfolding fits
 loop-again c = (omega arith, rw since-more (cc))
 
 returns : tie.Need-returns Inv-loop μ-loop

@@ -4,8 +4,8 @@ use Prim.Native.Nat.{_+_, _<_, _≤_}
 use native.Mathlib.Omega.{arith}
 use borrow.Author.Tests.{le-leb, lt-leb}
 use borrow.Author.Needs.{needs}
-use Rattle.load.proofs.room.clear_since.Statement.{statement}
-use Rattle.load.proofs.room.clear_since.Tie as tie
+use Rattle.load.proofs.clear.clear_since.Statement.{statement}
+use Rattle.load.proofs.clear.clear_since.Tie as tie
 
 add-if1 : tie.Need-add-if1
 add-if1 c = search needs

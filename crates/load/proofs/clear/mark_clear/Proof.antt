@@ -1,21 +1,21 @@
--- `mark_clear` meets its contract: the invariant has the tick from which all ticks passed have room.
+-- `mark_clear` meets its contract: the invariant has the tick from which the weight fits in all ticks passed.
 -- Assumes nothing.
 use Prim.Native.Nat.{_+_, _-_, _≤_}
 use mathlib.Core.Path.{_≡_}
-use Rattle.load.specs.Clear.{room, clearFor, clearSince}
-use Rattle.placed.specs.Marked.{Marked}
-use Rattle.load.proofs.Clear.{since-first, since-next}
-use Rattle.placed.proofs.Marking.{none-marked}
-use Rattle.placed.proofs.Marks.{marked-more, room-at}
+use Rattle.load.specs.Loads.{numberAt}
+use Rattle.load.specs.Clear.{fits, clearFor, clearSince}
+use Rattle.sets.specs.Table.{Marked}
+use Rattle.load.proofs.Since.{since-first, since-next}
+use Rattle.sets.proofs.Marking.{none-marked, marked-more, markable-at}
 use native.Mathlib.Omega.{arith}
-use Rattle.load.proofs.room.mark_clear.Statement.{statement}
-use Rattle.load.proofs.room.mark_clear.Tie as tie
+use Rattle.load.proofs.clear.mark_clear.Statement.{statement}
+use Rattle.load.proofs.clear.mark_clear.Tie as tie
 
 abbrev Inv-loop : tie.InvT-loop
-Inv-loop load duration weight limit count by table₀ last since₀ s₀ table since s = (s ≤ count) × (since ≡ clearSince (room load weight limit) (s + last)) × Marked (clearFor (room load weight limit) duration) by s table₀ table
+Inv-loop loads duration weight limit count by table₀ last since₀ s₀ table since s = (s ≤ count) × (since ≡ clearSince (fits (numberAt loads) weight limit) (s + last)) × Marked (clearFor (fits (numberAt loads) weight limit) duration) by s table₀ table
 
 abbrev μ-loop : tie.MeasureT-loop
-μ-loop load duration weight limit count by table₀ last since₀ s₀ table since s = count - s
+μ-loop loads duration weight limit count by table₀ last since₀ s₀ table since s = count - s
 
 abbrev start : tie.At-loop Inv-loop μ-loop → tie.Start Inv-loop μ-loop
 start c = c .before .before .before .before
@@ -45,7 +45,7 @@ clear-since-requires : tie.Need-clear-since-requires Inv-loop μ-loop
 clear-since-requires c κs = omega arith
 
 raise-requires : tie.Need-raise-requires Inv-loop μ-loop
-raise-requires c κs = let at = c .before .before .before .before in room-at _ _ _ _ _ _ (c .before .before .before .loop-test .taken) (start at .pre .1) (at .loop .inv .2)
+raise-requires c κs = let at = c .before .before .before .before in markable-at _ _ _ _ _ _ (c .before .before .before .loop-test .taken) (start at .pre .1) (at .loop .inv .2)
 
 add-s : tie.Need-add-s Inv-loop μ-loop
 add-s c = omega arith
@@ -54,7 +54,7 @@ loop-less : tie.Need-loop-less Inv-loop μ-loop
 loop-less c = omega arith
 
 loop-again : tie.Need-loop-again Inv-loop μ-loop
-unfolding room
+unfolding fits
 loop-again c = let at = c .before .before .before .before .before .before .before in
     let next = since-next _ (at .loop .s) (start at .args .duration - 1) (start at .args .duration) _ _ (omega arith) (at .loop .inv .1) (c .before .before .before .before .clear-since .ensures) in
     (omega arith, next .0, marked-more _ _ _ _ _ _ _ (omega (arith, start at .pre .1 .long)) (at .loop .inv .2) (c .before .before .raise .ensures) (next .1))
