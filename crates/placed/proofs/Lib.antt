@@ -3,3 +3,4 @@ pub mod Rows
 pub mod Given
 pub mod Writing
 pub mod Filling
+pub mod Bounding
