@@ -1,5 +1,6 @@
 // The charge run on from tick to tick.
 use activity::Header;
+use placed::wide;
 ghost use mathlib.Core.Path.{_≡_};
 ghost use mathlib.Core.Bool.{false};
 ghost use mathlib.Core.Logic.{_⊎_};
@@ -11,13 +12,6 @@ ghost use Rattle.charge.specs.Charge.{atTick, drawMore, chargeNext, Draw
 
 // The most charges of a plan: at each tick, and at the horizon.
 pub const CHARGES: usize = 4097;
-
-// The same number in 64 bits.
-fn wide(x: u32) -> u64
-    ensures { λ r. ⌜ (r ≡ x) × (r < 4294967296) ⌝ }
-{
-    x as u64
-}
 
 // The charge after a tick: the smaller of the capacity and the charge with the rate added and the draws taken off.
 pub fn step(c: i64, capacity: u32, rate: u32, draw: u64) -> i64

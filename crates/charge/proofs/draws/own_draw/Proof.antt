@@ -23,7 +23,7 @@ cast-t10 c = search needs
 
 -- src/draws.rt:24:1
 returns : tie.Need-returns
-returns c = rw (c .heater-from .ensures)
+returns c = rw (c .heater-from .ensures .0)
 
 pub own-draw-spec : {M : Type 1} → statement M
 own-draw-spec = tie.close (tie.spec heater-from-requires cast-t7 add-t9 cast-t10 returns)
