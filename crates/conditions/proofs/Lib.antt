@@ -1,3 +1,4 @@
 pub mod Allowed
 pub mod Ended
 pub mod Volumes
+pub mod Picked

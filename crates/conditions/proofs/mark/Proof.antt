@@ -1,134 +1,111 @@
-use borrow.Author.Needs.{needs}
+-- `mark` meets its contract: each number picks its condition.
+-- Assumes nothing.
+use native.Mathlib.Nat.{lt-irrefl, lt-of-lt-of-le}
+use native.Mathlib.Omega.{arith}
+use borrow.Author.Needs.{needs, length-unmapped}
+use mathlib.Core.Path.{_≡_}
+use lib.ListN.{length}
+use Rattle.sets.specs.Table.{Markable}
+use Rattle.sets.proofs.Bits.{past}
+use Rattle.conditions.proofs.Picked.{picked, ticks-ok, amounts-ok, settings-ok, lasts, count-end, count-few, markable, kept-ok, windows-are, after-are, units-are, state-is, engines-are, peaks-are, charge-is, volume-is, warmup-is}
 use Rattle.conditions.proofs.mark.Statement.{statement}
 use Rattle.conditions.proofs.mark.Tie as tie
-use Rattle.conditions.proofs.mark.Reads as reads
-use Rattle.conditions.proofs.mark.Lts as lts
-use Rattle.charge.proofs.mark_charge.Reads as mark-charge-reads
-use Rattle.conditions.proofs.after.mark_after.Reads as mark-after-reads
-use Rattle.conditions.proofs.volume.mark_volume.Reads as mark-volume-reads
-use Rattle.conditions.proofs.warmup.mark_warmup.Reads as mark-warmup-reads
-use Rattle.conditions.proofs.windows.mark_windows.Reads as mark-windows-reads
-use Rattle.load.proofs.mark_engines.Reads as mark-engines-reads
-use Rattle.load.proofs.mark_peaks.Reads as mark-peaks-reads
-use Rattle.load.proofs.mark_units.Reads as mark-units-reads
-use Rattle.sets.proofs.bit.Reads as bit-reads
-use Rattle.state.proofs.mark_state.Reads as mark-state-reads
 
--- src/lib.rt:48:9
+-- the condition's bit can be added to the table
+room : (c : tie.After-bit) → Markable (c .bit .result) (c .before .before .args .count) (c .before .before .args .table .now)
+room c = let s = c .before .before in markable _ _ _ _ _ _ _ _ (s .pre .0 .2) _ (s .pre .0 .1 .1) _ _ (c .bit .ensures .1) (s .pre .1 .0) (s .pre .1 .1)
+
 bit-requires : tie.Need-bit-requires
 bit-requires c κs = search needs
 
--- src/lib.rt:54:14
 mark-windows-requires : tie.Need-mark-windows-requires
-mark-windows-requires c κs = ?
+mark-windows-requires c κs =
+    let s = c .before .before .before .before .before .before .before .before .before in
+    (s .pre .0 .1 .1 .sized .windows, length-unmapped _ (s .args .candidate .«window_from») 4 (s .good .1 .1 .0 .1 .1 .1 .1 .1 .1 .1 .0 .1 .0 .1), length-unmapped _ (s .args .candidate .«window_to») 4 (s .good .1 .1 .0 .1 .1 .1 .1 .1 .1 .1 .1 .0 .1 .0 .1), room (c .before .before .before .before .before .before .before))
 
--- src/lib.rt:55:14
 mark-after-requires : tie.Need-mark-after-requires
-mark-after-requires c κs = ?
+mark-after-requires c κs = let B = c .before .before .before .before .before .before .before .before .pre .0 .1 .1 in (omega (arith, B .few), B .sized .after, room (c .before .before .before .before .before .before))
 
--- src/lib.rt:64:14
 mark-units-requires : tie.Need-mark-units-requires
-mark-units-requires c κs = ?
+mark-units-requires c κs = let s = c .before .before .before .before .before .before .before in ((s .pre .0 .1 .1 .few, ticks-ok _ _ _ _ _ _ _ _ (s .pre .0 .2) _ (s .pre .0 .1 .1)), (lasts _ _ _ _ _ _ _ _ (s .pre .0 .2) _ (s .pre .0 .1 .1), count-few _ _ _ _ _ _ _ _ (s .pre .0 .2) _ (s .pre .0 .1 .1), room (c .before .before .before .before .before)))
 
--- src/lib.rt:65:14
 mark-state-requires : tie.Need-mark-state-requires
-mark-state-requires c κs = ?
+mark-state-requires c κs = let s = c .before .before .before .before .before .before .before in ((s .pre .0 .1 .1 .few, ticks-ok _ _ _ _ _ _ _ _ (s .pre .0 .2) _ (s .pre .0 .1 .1), settings-ok _ _ _ _ _ _ _ _ (s .pre .0 .2) _ (s .pre .0 .1 .1)), (count-few _ _ _ _ _ _ _ _ (s .pre .0 .2) _ (s .pre .0 .1 .1), room (c .before .before .before .before .before)))
 
--- src/lib.rt:66:14
 mark-engines-requires : tie.Need-mark-engines-requires
-mark-engines-requires c κs = ?
+mark-engines-requires c κs = let s = c .before .before .before .before .before .before .before in ((s .pre .0 .1 .1 .few, ticks-ok _ _ _ _ _ _ _ _ (s .pre .0 .2) _ (s .pre .0 .1 .1), amounts-ok _ _ _ _ _ _ _ _ (s .pre .0 .2) _ (s .pre .0 .1 .1)), (lasts _ _ _ _ _ _ _ _ (s .pre .0 .2) _ (s .pre .0 .1 .1), count-few _ _ _ _ _ _ _ _ (s .pre .0 .2) _ (s .pre .0 .1 .1), room (c .before .before .before .before .before)))
 
--- src/lib.rt:76:14
 mark-peaks-requires : tie.Need-mark-peaks-requires
-mark-peaks-requires c κs = ?
+mark-peaks-requires c κs = let s = c .before .before .before .before .before .before .before in ((s .pre .0 .1 .1 .few, ticks-ok _ _ _ _ _ _ _ _ (s .pre .0 .2) _ (s .pre .0 .1 .1), amounts-ok _ _ _ _ _ _ _ _ (s .pre .0 .2) _ (s .pre .0 .1 .1)), (lasts _ _ _ _ _ _ _ _ (s .pre .0 .2) _ (s .pre .0 .1 .1), count-few _ _ _ _ _ _ _ _ (s .pre .0 .2) _ (s .pre .0 .1 .1), room (c .before .before .before .before .before)))
 
--- src/lib.rt:77:14
 mark-charge-requires : tie.Need-mark-charge-requires
-mark-charge-requires c κs = ?
+mark-charge-requires c κs = let s = c .before .before .before .before .before .before .before in ((s .pre .0 .1 .1 .few, ticks-ok _ _ _ _ _ _ _ _ (s .pre .0 .2) _ (s .pre .0 .1 .1), amounts-ok _ _ _ _ _ _ _ _ (s .pre .0 .2) _ (s .pre .0 .1 .1)), ((s .pre .0 .1 .1 .reached .header, kept-ok _ _ _ _ _ _ _ _ (s .pre .0 .2) _ (s .pre .0 .1 .1)), (count-end _ _ _ _ _ _ _ _ (s .pre .0 .2) _ (s .pre .0 .1 .1), room (c .before .before .before .before .before))))
 
--- src/lib.rt:88:14
 mark-volume-requires : tie.Need-mark-volume-requires
-mark-volume-requires c κs = ?
+mark-volume-requires c κs = (c .before .before .before .before .before .before .before .pre .0 .1 .1 .few, room (c .before .before .before .before .before))
 
--- src/lib.rt:89:14
 mark-warmup-requires : tie.Need-mark-warmup-requires
-mark-warmup-requires c κs = ?
+mark-warmup-requires c κs = room (c .before .before .before .before .before)
 
--- src/lib.rt:32:1
 same-length : tie.Need-same-length
 same-length c = search needs
 
--- src/lib.rt:32:1
 returns : tie.Need-returns
-returns c = ?
+returns c = λ placed B. let s = c .before .before .before .before .before .before .before .before .before .before .before .before in picked _ _ _ _ 0 _ _ _ _ _ (s .pre .0 .0) (c .before .before .before .before .before .before .match .keys1) (c .before .before .before .before .before .before .before .before .before .before .bit .ensures .0) (windows-are _ _ _ _ _ _ _ _ (s .pre .0 .2) placed B) (c .before .before .mark-windows .ensures)
 
--- src/lib.rt:32:1
 same-length-2 : tie.Need-same-length-2
 same-length-2 c = search needs
 
--- src/lib.rt:32:1
 returns-2 : tie.Need-returns-2
-returns-2 c = ?
+returns-2 c = λ placed B.
+    let s = c .before .before .before .before .before .before .before .before .before .before .before in
+    let long : length (s .args .candidate .after) ≡ 8 = length-unmapped _ (s .args .candidate .after) 8 (s .good .1 .1 .0 .1 .1 .1 .1 .1 .1 .1 .1 .1 .1 .0 .1 .0 .1) in
+    picked _ _ _ _ 1 _ _ _ _ _ (s .pre .0 .0) (c .before .before .before .before .before .match .keys2) (c .before .before .before .before .before .before .before .before .before .bit .ensures .0) (after-are _ _ _ _ _ _ _ _ (s .pre .0 .2) placed B (omega (arith, B .sized .after))) (c .before .before .mark-after .ensures)
 
--- src/lib.rt:32:1
 same-length-3 : tie.Need-same-length-3
 same-length-3 c = search needs
 
--- src/lib.rt:32:1
 returns-3 : tie.Need-returns-3
-returns-3 c = ?
+returns-3 c = λ placed B. let s = c .before .before .before .before .before .before .before .before .before .before in picked _ _ _ _ 2 _ _ _ _ _ (s .pre .0 .0) (c .before .before .before .before .match .keys3) (c .before .before .before .before .before .before .before .before .bit .ensures .0) (units-are _ _ _ _ _ _ _ _ (s .pre .0 .2) placed B) (c .before .before .mark-units .ensures)
 
--- src/lib.rt:32:1
 same-length-4 : tie.Need-same-length-4
 same-length-4 c = search needs
 
--- src/lib.rt:32:1
 returns-4 : tie.Need-returns-4
-returns-4 c = ?
+returns-4 c = λ placed B. let s = c .before .before .before .before .before .before .before .before .before .before in picked _ _ _ _ 3 _ _ _ _ _ (s .pre .0 .0) (c .before .before .before .before .match .keys4) (c .before .before .before .before .before .before .before .before .bit .ensures .0) (state-is _ _ _ _ _ _ _ _ (s .pre .0 .2) placed B) (c .before .before .mark-state .ensures)
 
--- src/lib.rt:32:1
 same-length-5 : tie.Need-same-length-5
 same-length-5 c = search needs
 
--- src/lib.rt:32:1
 returns-5 : tie.Need-returns-5
-returns-5 c = ?
+returns-5 c = λ placed B. let s = c .before .before .before .before .before .before .before .before .before .before in picked _ _ _ _ 4 _ _ _ _ _ (s .pre .0 .0) (c .before .before .before .before .match .keys5) (c .before .before .before .before .before .before .before .before .bit .ensures .0) (engines-are _ _ _ _ _ _ _ _ (s .pre .0 .2) placed B) (c .before .before .mark-engines .ensures)
 
--- src/lib.rt:32:1
 same-length-6 : tie.Need-same-length-6
 same-length-6 c = search needs
 
--- src/lib.rt:32:1
 returns-6 : tie.Need-returns-6
-returns-6 c = ?
+returns-6 c = λ placed B. let s = c .before .before .before .before .before .before .before .before .before .before in picked _ _ _ _ 5 _ _ _ _ _ (s .pre .0 .0) (c .before .before .before .before .match .keys6) (c .before .before .before .before .before .before .before .before .bit .ensures .0) (peaks-are _ _ _ _ _ _ _ _ (s .pre .0 .2) placed B) (c .before .before .mark-peaks .ensures)
 
--- src/lib.rt:32:1
 same-length-7 : tie.Need-same-length-7
 same-length-7 c = search needs
 
--- src/lib.rt:32:1
 returns-7 : tie.Need-returns-7
-returns-7 c = ?
+returns-7 c = λ placed B. let s = c .before .before .before .before .before .before .before .before .before .before in picked _ _ _ _ 6 _ _ _ _ _ (s .pre .0 .0) (c .before .before .before .before .match .keys7) (c .before .before .before .before .before .before .before .before .bit .ensures .0) (charge-is _ _ _ _ _ _ _ _ (s .pre .0 .2) placed B) (c .before .before .mark-charge .ensures)
 
--- src/lib.rt:32:1
 same-length-8 : tie.Need-same-length-8
 same-length-8 c = search needs
 
--- src/lib.rt:32:1
 returns-8 : tie.Need-returns-8
-returns-8 c = ?
+returns-8 c = λ placed B. let s = c .before .before .before .before .before .before .before .before .before .before in picked _ _ _ _ 7 _ _ _ _ _ (s .pre .0 .0) (c .before .before .before .before .match .keys8) (c .before .before .before .before .before .before .before .before .bit .ensures .0) (volume-is _ _ _ _ _ _ _ _ (s .pre .0 .2) placed B) (c .before .before .mark-volume .ensures)
 
--- src/lib.rt:32:1
 same-length-9 : tie.Need-same-length-9
 same-length-9 c = search needs
 
--- src/lib.rt:32:1
 returns-9 : tie.Need-returns-9
-returns-9 c = ?
+returns-9 c = λ placed B. let s = c .before .before .before .before .before .before .before .before .before .before in picked _ _ _ _ 8 _ _ _ _ _ (s .pre .0 .0) (c .before .before .before .before .match .keys9) (c .before .before .before .before .before .before .before .before .bit .ensures .0) (warmup-is _ _ _ _ _ _ _ _ (s .pre .0 .2) placed B) (c .before .before .mark-warmup .ensures)
 
--- src/lib.rt:32:1
 returns-10 : tie.Need-returns-10
-returns-10 c = ?
+returns-10 c = let s = c .before .before .before .before .before .before in let over = past 9 (s .args .c) (c .match .rest) in absurd (lt-irrefl _ (lt-of-lt-of-le (s .pre .0 .0) over))
 
 pub mark-spec : {M : Type 1} → statement M
 mark-spec =
