@@ -1,24 +1,20 @@
 -- Laws of the loops of the test of S: two loops of tests, the sets weighed so far, the elements written so far.
 -- Assumes nothing.
-use Prim.Native.Nat.{ℕ, _+_, _-_, _*_, _≤_, _<_}
-use mathlib.Core.Path.{_≡_, refl, ap, _∙_, subst}
+use Prim.Native.Nat.{ℕ, _+_, _<_}
+use mathlib.Core.Path.{_≡_, ap, _∙_}
 use mathlib.Core.Bool.{Bool, true, false, not}
 use mathlib.Core.List.{List}
-use native.Mathlib.Decide.{decLe}
 use native.Mathlib.Numerals.{add-one}
 use native.Mathlib.Omega.{arith}
 use lib.ListN.{length, getD, set}
 use lib.Seq.{getD-set-same, getD-set-other}
 use borrow.Author.Count.{below-more}
-use borrow.Author.Tests.{lt-leb}
 use Rattle.rules.specs.Tests.{each}
-use Rattle.rules.proofs.Tests.{each-at, each-all}
+use Rattle.rules.proofs.Tests.{each-all}
 use Rattle.rules.proofs.Lists.{each-fails}
-use Rattle.rules.proofs.Local.{bool-ext}
 use Rattle.placed.specs.Tables.{endAt, setAt}
 use Rattle.state.specs.declared.standing.StandingValue.{StandingValue}
 use Rattle.state.specs.Standing.{laterValue, standingBy}
-use Rattle.state.specs.Spoils.{never, spoiltBy, spoilIn, placedMet}
 
 -- ---- two loops of tests
 module _ (f : ℕ → ℕ → Bool) (m : ℕ → ℕ) (n : ℕ) where

@@ -4,7 +4,7 @@ use mathlib.Core.Path.{_≡_}
 use mathlib.Core.Bool.{Bool, cond, _&&_, not}
 use mathlib.Core.List.{List}
 use lib.Dec.{leb, ltb, eqb}
-use lib.ListN.{length, getD}
+use lib.ListN.{getD}
 use Rattle.rules.specs.Tests.{each}
 use Rattle.placed.specs.Tables.{startAt, endAt, setAt, needVariableAt, needCodeAt}
 use Rattle.state.specs.Standing.{standingBy}

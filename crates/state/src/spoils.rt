@@ -86,8 +86,8 @@ fn spoilt_at<'a>(
     requires { ⌜ (p < 64) × (j < 4) ⌝ }
     ensures { λ r. ⌜ r ≡ spoiltBy (spoilIn (now (spoils .entry)) p j) (endAt (now (ticks .entry)) p) effect ⌝ }
 {
-    if spoils[p * 4 + j] <= effect {
-        return effect < end_at(ticks, p);
+    if effect < end_at(ticks, p) {
+        return spoils[p * 4 + j] <= effect;
     }
     false
 }

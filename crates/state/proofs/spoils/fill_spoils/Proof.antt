@@ -1,7 +1,7 @@
 -- `fill_spoils` meets its contract: the first ticks of the needs below number k are written.
 -- Assumes nothing.
 use Prim.Native.Nat.{ℕ, _-_, _*_, _/_, _%_, _<_, _≤_}
-use mathlib.Core.Path.{_≡_, ap, _∙_}
+use mathlib.Core.Path.{_≡_}
 use native.Mathlib.Omega.{arith}
 use lib.ListN.{length, getD, length-set}
 use Rattle.state.specs.Spoils.{spoilAt}

@@ -1,6 +1,6 @@
 -- `rows_spoilt` meets its contract: no need from number k on is ever spoilt.
 -- Assumes nothing.
-use Prim.Native.Nat.{ℕ, _+_, _*_, _/_, _≤_, _<_}
+use Prim.Native.Nat.{ℕ, _*_, _≤_, _<_}
 use native.Mathlib.Omega.{arith}
 use lib.ListN.{getD}
 use Rattle.state.specs.Spoils.{never}
