@@ -3,7 +3,7 @@
 use Prim.Native.Nat.{ℕ, _+_, _≤_, _<_}
 use mathlib.Core.Path.{_≡_, refl, ap, _∙_}
 use mathlib.Core.Bool.{true, false}
-use mathlib.Core.List.{List, [], _∷_, map}
+use mathlib.Core.List.{List, [], _∷_, map, map-map}
 use native.Mathlib.Omega.{arith}
 use lib.ListN.{length, getD, take}
 use borrow.Author.Tests.{lt-ltb, le-ltb, eq-eqb, ne-eqb}
@@ -16,15 +16,15 @@ use Rattle.rules.specs.HeaderLine.{headerOf}
 use Rattle.rules.specs.Reading.{accepted, no, formed, onLine, misplaced, outOfReach, judged, afterLines, planLines, activityLines, reading}
 use Rattle.text.specs.Text.{indexOf}
 use Rattle.plan.specs.View.{activitiesIn, PlanSaid}
-use Rattle.plan.specs.LineAt.{activityIn, Says}
+use Rattle.plan.specs.LineAt.{activityIn, LineSays}
 use Rattle.plan.specs.Reading.{inOrder, readingView}
-use Rattle.plan.specs.Collected.{lineAmong, idIn, atOf, idOf, markView, AllMarked, orderMark, foundAt}
+use Rattle.plan.specs.Collected.{lineAmong, idIn, atOf, idOf, saidBy, LinesIn, orderLines, foundAt}
 use Rattle.plan.specs.LinesView.{Collected, activitiesView, linesView}
 use Rattle.plan.specs.declared.Reading.{Reading as ReadingStruct}
 use Rattle.plan.specs.declared.file.Lines.{Lines}
-use Rattle.plan.specs.declared.order.Mark.{Mark}
+use Rattle.plan.specs.declared.order.Line.{Line}
 use Rattle.plan.proofs.Column.{line-ids}
-use Rattle.plan.proofs.Ordering.{marked-order, view-order, marks-ids, map-at, says-at}
+use Rattle.plan.proofs.Ordering.{order-in, view-order, ids-said, says-at}
 use Rattle.plan.proofs.Cutting.{lines-last, not-ended}
 use Rattle.plan.proofs.Lining.{form-not}
 
@@ -42,20 +42,20 @@ module _ (h : Header) (s : List ℕ) (t : Lines) where
   unfolding inOrder afterLines linesView
   judge-stopped x = rw (ne-eqb _ _ x)
 
-  -- the places' lines and ids, out of the marks in order
-  module _ (g : Collected h s t) (list : List Mark) (o : take (t .count) list ≡ orderMark (take (t .count) (t .marks))) where
-    pub in-order : AllMarked h s (take (t .count) list)
-    in-order = rw o (marked-order h s (take (t .count) (t .marks)) (g .marked))
+  -- the places' lines and ids, out of the lines in order
+  module _ (g : Collected h s t) (list : List Line) (o : take (t .count) list ≡ orderLines (take (t .count) (t .list))) where
+    pub in-order : LinesIn h s (take (t .count) list)
+    in-order = rw o (order-in h s (take (t .count) (t .list)) (g .said))
 
     pub place-ids : (lines ids : List ℕ) → take (t .count) lines ≡ map atOf (take (t .count) list) → take (t .count) ids ≡ map idOf (take (t .count) list) → take (t .count) ids ≡ map (idIn h s) (take (t .count) lines)
-    place-ids lines ids e f = f ∙ marks-ids h s (take (t .count) list) in-order ∙ rw (e, map-at (idIn h s) (take (t .count) list))
+    place-ids lines ids e f = f ∙ ids-said h s (take (t .count) list) in-order ∙ rw (e, map-map (idIn h s) atOf (take (t .count) list))
 
-    pub all-say : (lines : List ℕ) → length lines ≡ 64 → take (t .count) lines ≡ map atOf (take (t .count) list) → (k : ℕ) → k < t .count → Says h s (getD lines k 0)
+    pub all-say : (lines : List ℕ) → length lines ≡ 64 → take (t .count) lines ≡ map atOf (take (t .count) list) → (k : ℕ) → k < t .count → LineSays h s (getD lines k 0)
     all-say lines n e k l = says-at h s (take (t .count) list) lines (t .count) k in-order e l (omega (arith, g .small))
 
     module _ (z : t .number ≡ 0) (lines : List ℕ) (e : take (t .count) lines ≡ map atOf (take (t .count) list)) (p : ℕ) (m : misplaced [] (activitiesIn h s (take (t .count) lines)) ≡ foundAt h s lines (t .count) p) where
       by-place : activitiesIn h s (take (t .count) lines) ≡ order (activitiesView h s t)
-      by-place = rw (e, map-at (activityIn h s) (take (t .count) list), o) (view-order h s (take (t .count) (t .marks)) (g .marked))
+      by-place = rw (e, map-map (activityIn h s) atOf (take (t .count) list), o) (view-order h s (take (t .count) (t .list)) (g .said))
 
       plan : Plan
       plan = record { header = h; activities = activitiesView h s t }
@@ -66,7 +66,7 @@ module _ (h : Header) (s : List ℕ) (t : Lines) where
 
       pub judge-7 : p < t .count → inOrder (afterLines (linesView h s t)) ≡ no 7 (lineAmong (idIn h s (getD lines p 0)) 2 (take (t .count) (t .ids)))
       unfolding inOrder judged foundAt plan
-      judge-7 k = lines-read ∙ rw (lt-ltb _ _ k, g .their-ids, marks-ids h s (take (t .count) (t .marks)) (g .marked)) (ap (no 7) (line-ids (markView h s) (idIn h s (getD lines p 0)) 2 (take (t .count) (t .marks))))
+      judge-7 k = lines-read ∙ rw (lt-ltb _ _ k, g .their-ids, ids-said h s (take (t .count) (t .list)) (g .said)) (ap (no 7) (line-ids (saidBy h s) (idIn h s (getD lines p 0)) 2 (take (t .count) (t .list))))
 
       pub judge-9 : t .count ≤ p → outOfReach h ≡ true → inOrder (afterLines (linesView h s t)) ≡ no 9 0
       unfolding inOrder judged foundAt plan

@@ -1,86 +1,84 @@
 -- Laws of what a line says: by its end, its value, its bounds, and its `after` alone.
 -- Assumes nothing.
 use Prim.Native.Nat.{ℕ, _+_, _-_, _<_, _≤_}
-use mathlib.Core.Path.{_≡_, refl, ap, _∙_}
-use mathlib.Core.Bool.{Bool, true, false, cond, not, _&&_}
+use mathlib.Core.Path.{_≡_, refl, ap, _∙_, subst}
+use mathlib.Core.Bool.{Bool, true, false, cond}
 use mathlib.Core.List.{List}
 use native.Mathlib.Omega.{arith}
-use lib.Dec.{eqb, leb}
+use lib.Dec.{eqb}
 use lib.ListN.{length, take, drop}
-use borrow.Author.Tests.{leb-true}
-use Rattle.rules.specs.Number.{isNumber, valueOf}
 use Rattle.rules.specs.Plan.{Header, Activity}
 use Rattle.rules.specs.Lines.{splitOn, field}
-use Rattle.rules.specs.Fields.{Read, value, fault, _>>=_, within, numberField, listField, numbers}
+use Rattle.rules.specs.Fields.{Read, value, fault, _>>=_, numberField, listField, numbers}
 use Rattle.rules.specs.ActivityLine.{activityOf}
+use Rattle.rules.proofs.Says.{Says, said, faulted}
+use Rattle.rules.proofs.FieldFacts.{number-says}
 use Rattle.text.specs.Text.{indexOf}
 use Rattle.plan.specs.Cursor.{unless}
 use Rattle.plan.specs.LineAt.{lineAt, valueIn, activityIn}
-use Rattle.plan.specs.Collected.{markView, Marked}
-use Rattle.plan.specs.declared.order.Mark.{Mark}
+use Rattle.plan.specs.Collected.{saidBy, LineIn}
+use Rattle.plan.specs.declared.order.Line.{Line}
 
 -- up to the next LF
 pub line-to : (s : List ℕ) (at end : ℕ) → end ≡ at + indexOf 10 (drop at s) → take (end - at) (drop at s) ≡ lineAt s at
 unfolding lineAt
 line-to s at end e = let i : end - at ≡ indexOf 10 (drop at s) = omega arith in rw i
 
--- a mark of a line that says the activity a
-pub mark-of : (h : Header) (s : List ℕ) (end : ℕ) (m : Mark) (a : Activity) → end ≡ m .at + indexOf 10 (drop (m .at) s) → m .at < length s → activityOf h (splitOn 9 (take (end - m .at) (drop (m .at) s))) ≡ value a → m .id ≡ a .id → m .priority ≡ a .priority → Marked h s m × (markView h s m ≡ a)
+-- a line that says the activity a
+pub line-in : (h : Header) (s : List ℕ) (end : ℕ) (l : Line) (a : Activity) → end ≡ l .at + indexOf 10 (drop (l .at) s) → l .at < length s → activityOf h (splitOn 9 (take (end - l .at) (drop (l .at) s))) ≡ value a → l .id ≡ a .id → l .priority ≡ a .priority → LineIn h s l × (saidBy h s l ≡ a)
 unfolding activityIn valueIn
-mark-of h s end m a e i f g k =
-    let x : activityOf h (splitOn 9 (lineAt s (m .at))) ≡ value a = rw (line-to s (m .at) end e) at f in
-    let v : markView h s m ≡ a = ap valueIn x in
+line-in h s end l a e i f g k =
+    let x : activityOf h (splitOn 9 (lineAt s (l .at))) ≡ value a = rw (line-to s (l .at) end e) at f in
+    let v : saidBy h s l ≡ a = ap valueIn x in
     (record { says = record { inside = i; says = rw v x }; id-is = rw v g; priority-is = rw v k }, v)
 
 -- a reading without a fault says its value
-pub read-as : {A : Type 0} (f : ℕ) (a b : A) (x : Read A) → unless f (value a) ≡ x → x ≡ value b → a ≡ b
+pub value-read : {A : Type 0} (f : ℕ) (a b : A) (x : Read A) → unless f (value a) ≡ x → x ≡ value b → a ≡ b
 unfolding unless
-read-as f a b x e g = go (eqb f 0) (e ∙ g)
+value-read f a b x e g = go (eqb f 0) (e ∙ g)
   where
     go : (t : Bool) → cond t (value a) (fault f) ≡ value b → a ≡ b
     go true h = cc
     go false h = let z : _≡_ {A = ℕ} 1 0 = cc in absurd (omega arith)
 
--- what has a value says that each of its fields has one
-bound : {A B : Type 0} (x : Read A) (next : A → Read B) (b : B) → x >>= next ≡ value b → (a : A) × (x ≡ value a) × (next a ≡ value b)
-unfolding _>>=_
-bound (value a) next b e = (a, refl, e)
-bound (fault k) next b e = let z : _≡_ {A = ℕ} 1 0 = cc in absurd (omega arith)
+-- what is said of a value
+of-value : {A : Type 0} {P : A → Type 0} {F : ℕ → Type 0} {x : Read A} {a : A} → Says P F x → x ≡ value a → P a
+of-value {P = P} (said p) e = subst P (cc) p
+of-value (faulted f) e = let z : _≡_ {A = ℕ} 1 0 = cc in absurd (omega arith)
 
 number-most : (lo hi : ℕ) (s : List ℕ) (v : ℕ) → numberField lo hi s ≡ value v → v ≤ hi
-unfolding numberField within
-number-most lo hi s v e = go (isNumber s) (leb lo (valueOf s)) (leb (valueOf s) hi) refl e
-  where
-    go : (a b c : Bool) → leb (valueOf s) hi ≡ c → cond (not a) (fault 3) (cond (not (b && c)) (fault 4) (value (valueOf s))) ≡ value v → v ≤ hi
-    go false b c q f = let z : _≡_ {A = ℕ} 1 0 = cc in absurd (omega arith)
-    go true false c q f = let z : _≡_ {A = ℕ} 1 0 = cc in absurd (omega arith)
-    go true true false q f = let z : _≡_ {A = ℕ} 1 0 = cc in absurd (omega arith)
-    go true true true q f = let g : valueOf s ≡ v = cc in omega (arith, leb-true (valueOf s) hi q)
+number-most lo hi s v e = let f = of-value (number-says lo hi s) e in omega (arith, f .0, f .1 .high)
 
-pub record Told (fs : List (List ℕ)) (a : Activity) : Type 0 where
+-- a field that has a value, then the next ones
+field-then : {A B : Type 0} {Q : B → Type 0} (x : Read A) {next : A → Read B} → ((a : A) → x ≡ value a → Says Q (λ k. Unit {0}) (next a)) → Says Q (λ k. Unit {0}) (x >>= next)
+unfolding _>>=_
+field-then (value a) f = f a refl
+field-then (fault k) f = faulted tt
+
+-- the fields of a line that says an activity
+pub record LineFields (fs : List (List ℕ)) (a : Activity) : Type 0 where
   pub id : a .id ≤ 65535
   pub priority : a .priority ≤ 65535
   pub after : listField (numbers 65535 8) (field fs 6) ≡ value (a .after)
 
-pub told : (h : Header) (fs : List (List ℕ)) (a : Activity) → activityOf h fs ≡ value a → Told fs a
-unfolding activityOf valueIn
-told h fs a e =
-    let id = bound _ _ _ e in
-    let priority = bound _ _ _ (id .2) in
-    let duration = bound _ _ _ (priority .2) in
-    let preferred = bound _ _ _ (duration .2) in
-    let windows = bound _ _ _ (preferred .2) in
-    let after = bound _ _ _ (windows .2) in
-    let units = bound _ _ _ (after .2) in
-    let needs = bound _ _ _ (units .2) in
-    let sets = bound _ _ _ (needs .2) in
-    let engines = bound _ _ _ (sets .2) in
-    let peak = bound _ _ _ (engines .2) in
-    let draw = bound _ _ _ (peak .2) in
-    let volume = bound _ _ _ (draw .2) in
-    let warm = bound _ _ _ (volume .2) in
-    record {
-      id = number-most 0 65535 _ _ (id .1 ∙ ap (λ r. value (valueIn r .id)) (warm .2));
-      priority = number-most 0 65535 _ _ (priority .1 ∙ ap (λ r. value (valueIn r .priority)) (warm .2));
-      after = after .1 ∙ ap (λ r. value (valueIn r .after)) (warm .2);
-    }
+pub line-fields : (h : Header) (fs : List (List ℕ)) (a : Activity) → activityOf h fs ≡ value a → LineFields fs a
+unfolding activityOf
+line-fields h fs a e = of-value each e
+  where
+    each : Says (LineFields fs) (λ k. Unit {0}) (activityOf h fs)
+    each =
+        field-then _ (λ id i.
+        field-then _ (λ priority j.
+        field-then _ (λ duration _.
+        field-then _ (λ preferred _.
+        field-then _ (λ windows _.
+        field-then _ (λ after k.
+        field-then _ (λ units _.
+        field-then _ (λ needs _.
+        field-then _ (λ sets _.
+        field-then _ (λ engines _.
+        field-then _ (λ peak _.
+        field-then _ (λ draw _.
+        field-then _ (λ volume _.
+        field-then _ (λ warm _.
+        said record { id = number-most 0 65535 _ _ i; priority = number-most 0 65535 _ _ j; after = k }))))))))))))))

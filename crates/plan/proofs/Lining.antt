@@ -15,13 +15,13 @@ use Rattle.rules.specs.Fields.{value, fault}
 use Rattle.rules.specs.Plan.{Header, Activity}
 use Rattle.rules.specs.ActivityLine.{activityOf}
 use Rattle.rules.specs.Reading.{no, formed, onLine, hasId, activityLines}
-use Rattle.plan.specs.Collected.{isId, markView}
+use Rattle.plan.specs.Collected.{isId, saidBy}
 use Rattle.plan.specs.LinesView.{isFormed, Collected, activitiesView, linesView, linesFrom}
 use Rattle.plan.specs.declared.file.Lines.{Lines}
-use Rattle.plan.specs.declared.order.Mark.{Mark}
+use Rattle.plan.specs.declared.order.Line.{Line}
 use Rattle.plan.proofs.Fronts.{map-append}
 use Rattle.plan.proofs.Column.{has-ids}
-use Rattle.plan.proofs.Ordering.{marks-ids}
+use Rattle.plan.proofs.Ordering.{ids-said}
 
 -- a line's form, by its fields
 pub form-is : (word : List ℕ) (count : ℕ) (line l : List ℕ) → ended line ≡ true → fields line ≡ splitOn 9 l → formed word count line ≡ isFormed word count l
@@ -55,8 +55,8 @@ module _ (h : Header) (earlier : List Activity) (n : ℕ) (line : List ℕ) (res
 
 pub counted : (h : Header) (s : List ℕ) (t : Lines) → Collected h s t → length (activitiesView h s t) ≡ t .count
 counted h s t g =
-    let m : t .count ≤ length (t .marks) = omega (arith, g .small, g .long) in
-    length-map (take (t .count) (t .marks)) (markView h s) ∙ length-take-le (t .count) (t .marks) m
+    let m : t .count ≤ length (t .list) = omega (arith, g .small, g .long) in
+    length-map (take (t .count) (t .list)) (saidBy h s) ∙ length-take-le (t .count) (t .list) m
 
 -- the code's next state, where the line is refused and where it is an activity
 module _ (h : Header) (s : List ℕ) (t r : Lines) (line : List ℕ) (rest : List (List ℕ)) (z : t .number ≡ 0) where
@@ -70,8 +70,8 @@ module _ (h : Header) (s : List ℕ) (t r : Lines) (line : List ℕ) (rest : Lis
       let n : suc (t .count + 2) ≡ r .count + 2 = omega arith in
       rw (eq-eqb _ _ z, eq-eqb _ _ (e ∙ z)) (q ∙ rw (n, g))
 
-pub pushed-view : (h : Header) (s : List ℕ) (t r : Lines) (m : Mark) → take (r .count) (r .marks) ≡ take (t .count) (t .marks) ++ (m ∷ []) → activitiesView h s r ≡ activitiesView h s t ++ (markView h s m ∷ [])
-pushed-view h s t r m e = rw e (map-append (markView h s) (take (t .count) (t .marks)) (m ∷ []))
+pub pushed-view : (h : Header) (s : List ℕ) (t r : Lines) (m : Line) → take (r .count) (r .list) ≡ take (t .count) (t .list) ++ (m ∷ []) → activitiesView h s r ≡ activitiesView h s t ++ (saidBy h s m ∷ [])
+pushed-view h s t r m e = rw e (map-append (saidBy h s) (take (t .count) (t .list)) (m ∷ []))
 
 -- no more lines, and those refused
 pub from-done : (h : Header) (s : List ℕ) (t : Lines) → linesFrom h s t [] ≡ linesView h s t
@@ -93,4 +93,4 @@ form-not word count line e = rw e
 
 -- the id of an earlier line
 pub has-collected : (h : Header) (s : List ℕ) (t : Lines) → Collected h s t → (id : ℕ) → hasId id (activitiesView h s t) ≡ anyOf (isId id) (take (t .count) (t .ids))
-has-collected h s t g id = rw (g .their-ids, marks-ids h s (take (t .count) (t .marks)) (g .marked)) (has-ids (markView h s) id (take (t .count) (t .marks)))
+has-collected h s t g id = rw (g .their-ids, ids-said h s (take (t .count) (t .list)) (g .said)) (has-ids (saidBy h s) id (take (t .count) (t .list)))

@@ -1,4 +1,4 @@
--- Activities as the reader collects them: a mark a line in an array, with a column of their ids.
+-- Activity lines as the reader collects them, in an array, with a column of their ids.
 use Prim.Native.Nat.{ℕ, suc}
 use mathlib.Core.Path.{_≡_}
 use mathlib.Core.Bool.{Bool, cond}
@@ -8,8 +8,8 @@ use lib.Dec.{leb, ltb, eqb}
 use lib.ListN.{getD}
 use Rattle.rules.specs.Tests.{anyOf}
 use Rattle.rules.specs.Plan.{Header, Activity}
-use Rattle.plan.specs.LineAt.{activityIn, Says}
-use Rattle.plan.specs.declared.order.Mark.{Mark}
+use Rattle.plan.specs.LineAt.{activityIn, LineSays}
+use Rattle.plan.specs.declared.order.Line.{Line}
 
 -- ---- ids
 
@@ -28,40 +28,40 @@ lineAmong id n (x ∷ xs) = cond (eqb x id) n (lineAmong id (suc n) xs)
 abbrev pub idIn : Header → List ℕ → ℕ → ℕ
 idIn h s at = activityIn h s at .id
 
--- ---- marks
+-- ---- lines
 
-abbrev pub atOf : Mark → ℕ
-atOf m = m .at
+abbrev pub atOf : Line → ℕ
+atOf l = l .at
 
-abbrev pub idOf : Mark → ℕ
-idOf m = m .id
+abbrev pub idOf : Line → ℕ
+idOf l = l .id
 
--- the activity of a mark's line
-abbrev pub markView : Header → List ℕ → Mark → Activity
-markView h s m = activityIn h s (m .at)
+-- the activity that a line says
+abbrev pub saidBy : Header → List ℕ → Line → Activity
+saidBy h s l = activityIn h s (l .at)
 
--- the mark that stands for one outside an array
-abbrev pub noMark : Mark
-noMark = record { at = 0; id = 0; priority = 0 }
+-- the line that stands for an entry outside an array
+abbrev pub blankLine : Line
+blankLine = record { at = 0; id = 0; priority = 0 }
 
--- its line says an activity, of this id and this priority
-pub record Marked (h : Header) (s : List ℕ) (m : Mark) : Type 0 where
-  pub says : Says h s (m .at)
-  pub id-is : m .id ≡ markView h s m .id
-  pub priority-is : m .priority ≡ markView h s m .priority
+-- it is a line of s and says an activity, of this id and this priority
+pub record LineIn (h : Header) (s : List ℕ) (l : Line) : Type 0 where
+  pub says : LineSays h s (l .at)
+  pub id-is : l .id ≡ saidBy h s l .id
+  pub priority-is : l .priority ≡ saidBy h s l .priority
 
-unfoldable pub AllMarked : Header → List ℕ → List Mark → Type 0
-AllMarked h s [] = Unit {0}
-AllMarked h s (m ∷ rest) = Marked h s m × AllMarked h s rest
+unfoldable pub LinesIn : Header → List ℕ → List Line → Type 0
+LinesIn h s [] = Unit {0}
+LinesIn h s (l ∷ rest) = LineIn h s l × LinesIn h s rest
 
 -- the scheduling order
-unfoldable pub insertMark : Mark → List Mark → List Mark
-insertMark a [] = a ∷ []
-insertMark a (b ∷ bs) = cond (leb (a .priority) (b .priority)) (a ∷ b ∷ bs) (b ∷ insertMark a bs)
+unfoldable pub insertLine : Line → List Line → List Line
+insertLine a [] = a ∷ []
+insertLine a (b ∷ bs) = cond (leb (a .priority) (b .priority)) (a ∷ b ∷ bs) (b ∷ insertLine a bs)
 
-unfoldable pub orderMark : List Mark → List Mark
-orderMark [] = []
-orderMark (a ∷ rest) = insertMark a (orderMark rest)
+unfoldable pub orderLines : List Line → List Line
+orderLines [] = []
+orderLines (a ∷ rest) = insertLine a (orderLines rest)
 
 -- ---- `after`
 

@@ -23,6 +23,6 @@ unfoldable pub activityIn : Header → List ℕ → ℕ → Activity
 activityIn h s at = valueIn (activityOf h (splitOn 9 (lineAt s at)))
 
 -- it says one
-pub record Says (h : Header) (s : List ℕ) (at : ℕ) : Type 0 where
+pub record LineSays (h : Header) (s : List ℕ) (at : ℕ) : Type 0 where
   pub inside : at < length s
   pub says : activityOf h (splitOn 9 (lineAt s at)) ≡ value (activityIn h s at)

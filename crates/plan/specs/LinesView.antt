@@ -9,23 +9,23 @@ use Rattle.rules.specs.Bytes.{same}
 use Rattle.rules.specs.Lines.{splitOn}
 use Rattle.rules.specs.Plan.{Header, Activity}
 use Rattle.rules.specs.Reading.{Reading, accepted, no, activityLines}
-use Rattle.plan.specs.Collected.{idOf, markView, AllMarked}
+use Rattle.plan.specs.Collected.{idOf, saidBy, LinesIn}
 use Rattle.plan.specs.declared.file.Lines.{Lines}
 
 -- check 2 of a line without its LF
 unfoldable pub isFormed : List ℕ → ℕ → List ℕ → Bool
 isFormed word count l = eqb (length (splitOn 9 l)) count && same (getD (splitOn 9 l) 0 []) word
 
--- the marks by line, and their ids
+-- lines of s, and their ids
 pub record Collected (h : Header) (s : List ℕ) (t : Lines) : Type 0 where
   pub small : t .count ≤ 64
   pub ids-long : length (t .ids) ≡ 64
-  pub long : length (t .marks) ≡ 64
-  pub their-ids : take (t .count) (t .ids) ≡ map idOf (take (t .count) (t .marks))
-  pub marked : AllMarked h s (take (t .count) (t .marks))
+  pub long : length (t .list) ≡ 64
+  pub their-ids : take (t .count) (t .ids) ≡ map idOf (take (t .count) (t .list))
+  pub said : LinesIn h s (take (t .count) (t .list))
 
 abbrev pub activitiesView : Header → List ℕ → Lines → List Activity
-activitiesView h s t = map (markView h s) (take (t .count) (t .marks))
+activitiesView h s t = map (saidBy h s) (take (t .count) (t .list))
 
 -- the lines read, where no more follow
 unfoldable pub linesView : Header → List ℕ → Lines → Reading

@@ -4,7 +4,7 @@ use mathlib.Core.Path.{_≡_}
 use mathlib.Core.List.{List, [], _∷_, map}
 use lib.ListN.{length, getD, take}
 use Rattle.rules.specs.Plan.{Header, Window, Setting, Activity, Plan}
-use Rattle.plan.specs.LineAt.{activityIn, Says}
+use Rattle.plan.specs.LineAt.{activityIn, LineSays}
 use Rattle.plan.specs.declared.Header.{Header as HeaderStruct}
 use Rattle.plan.specs.declared.Activity.{Activity as ActivityStruct}
 use Rattle.plan.specs.declared.Plan.{Plan as PlanStruct}
@@ -99,7 +99,7 @@ activitiesIn h s lines = map (activityIn h s) lines
 pub record PlanSaid (s : List ℕ) (p : PlanStruct) : Type 0 where
   pub few : p .count ≤ 64
   pub long : length (p .lines) ≡ 64
-  pub says : (k : ℕ) → k < p .count → Says (headerView (p .header)) s (getD (p .lines) k 0)
+  pub says : (k : ℕ) → k < p .count → LineSays (headerView (p .header)) s (getD (p .lines) k 0)
 
 -- its activities stand by place
 unfoldable pub planView : List ℕ → PlanStruct → Plan

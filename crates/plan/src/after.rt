@@ -7,7 +7,7 @@ ghost use Rattle.rules.specs.Plan.{Header as HeaderValue};
 ghost use Rattle.rules.specs.Tests.{every};
 ghost use Rattle.rules.specs.Reading.{misplaced};
 ghost use Rattle.plan.specs.View.{headerView, PlanSaid, planView};
-ghost use Rattle.plan.specs.LineAt.{activityIn, Says};
+ghost use Rattle.plan.specs.LineAt.{activityIn, LineSays};
 ghost use Rattle.plan.specs.Collected.{amongIds, idIn, foundAt};
 use crate::Plan;
 use crate::fields::eight_of;
@@ -32,7 +32,7 @@ fn all_among<'a>(after: &'a [u32], count: usize, ids: &'a [u16], n: usize) -> bo
 // Whether each id that the line at `at` names in `after` is among the first n.
 fn follows<'a>(s: &'a [u8], at: u16, ids: &'a [u16], n: usize) -> bool
     requires { ⌜ (at ≤ length (now s)) × (n ≤ length (now ids)) ⌝ }
-    ensures { λ r. ⌜ ((h : HeaderValue) → Says h (now (s .entry)) at → r ≡ every (amongIds (take n (now (ids .entry)))) (activityIn h (now (s .entry)) at .after)) ⌝ }
+    ensures { λ r. ⌜ ((h : HeaderValue) → LineSays h (now (s .entry)) at → r ≡ every (amongIds (take n (now (ids .entry)))) (activityIn h (now (s .entry)) at .after)) ⌝ }
 {
     let list = after_at(s, at);
     let after = eight_of(list);

@@ -9,25 +9,25 @@ ghost use Rattle.rules.specs.Lines.{splitOn, lines, ended, fields};
 ghost use Rattle.rules.specs.Reading.{activityLines};
 ghost use Rattle.text.specs.Text.{indexOf};
 ghost use Rattle.plan.specs.View.{headerView};
-ghost use Rattle.plan.specs.Collected.{Marked};
+ghost use Rattle.plan.specs.Collected.{LineIn};
 ghost use Rattle.plan.specs.LinesView.{Collected, isFormed, linesView, linesFrom};
 use crate::Header;
 use crate::activity_line::read_activity;
 use crate::ids::has_id;
-use crate::order::Mark;
+use crate::order::Line;
 use text::field::field_at;
 use text::field::field_count;
 use text::field::find;
 use text::word::ACT;
 use text::word::is;
 
-// The marks of the first `count` activities and their ids, by line; where the number is not 0, the refusal's number and line.
+// The first `count` activity lines, in order, and their ids; where the number is not 0, the refusal's number and line.
 pub struct Lines {
     pub number: u32,
     pub line: u32,
     pub count: usize,
     pub ids: [u16; 64],
-    pub marks: [Mark; 64],
+    pub list: [Line; 64],
 }
 
 // Whether the line l, without its LF, begins with this word and has this many fields.
@@ -44,7 +44,7 @@ pub fn formed(l: &[u8], word: &[u8], count: usize) -> bool
 fn no_lines() -> Lines
     ensures { λ r. ⌜ (r .number ≡ 0) × (r .count ≡ 0) × ((h : HeaderValue) (s : List ℕ) → Collected h s r) ⌝ }
 {
-    let m = Mark {
+    let none = Line {
         at: 0,
         id: 0,
         priority: 0,
@@ -54,7 +54,7 @@ fn no_lines() -> Lines
         line: 0,
         count: 0,
         ids: [0; 64],
-        marks: [m; 64],
+        list: [none; 64],
     }
 }
 
@@ -70,14 +70,14 @@ fn refuse(t: Lines, number: u32) -> Lines
 }
 
 // One more line.
-fn push(t: Lines, m: Mark) -> Lines
-    requires { ⌜ (t .count < 64) × (length (t .marks) ≡ 64) ⌝ }
-    ensures { λ r. ⌜ (r .number ≡ t .number) × (r .count ≡ t .count + 1) × (take (r .count) (r .marks) ≡ take (t .count) (t .marks) ++ (m ∷ [])) × ((h : HeaderValue) (s : List ℕ) → Collected h s t → Marked h s m → Collected h s r) ⌝ }
+fn push(t: Lines, line: Line) -> Lines
+    requires { ⌜ (t .count < 64) × (length (t .list) ≡ 64) ⌝ }
+    ensures { λ r. ⌜ (r .number ≡ t .number) × (r .count ≡ t .count + 1) × (take (r .count) (r .list) ≡ take (t .count) (t .list) ++ (line ∷ [])) × ((h : HeaderValue) (s : List ℕ) → Collected h s t → LineIn h s line → Collected h s r) ⌝ }
 {
     let n = t.count;
     let mut r = t;
-    r.ids[n] = m.id;
-    r.marks[n] = m;
+    r.ids[n] = line.id;
+    r.list[n] = line;
     r.count = n + 1;
     r
 }
@@ -106,12 +106,12 @@ fn add_line(t: Lines, s: &[u8], at: usize, end: usize, h: Header) -> Lines
     if has_id(&ids, n, a.id) {
         return refuse(t, 6);
     }
-    let m = Mark {
+    let line = Line {
         at: at as u16,
         id: a.id as u16,
         priority: a.priority as u16,
     };
-    push(t, m)
+    push(t, line)
 }
 
 // The lines of s from the byte `from` on, in a plan with the header h.

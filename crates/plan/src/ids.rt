@@ -5,7 +5,7 @@ ghost use Prim.Native.Nat.{_≤_};
 ghost use lib.ListN.{length, take};
 ghost use Rattle.rules.specs.Tests.{anyOf};
 ghost use Rattle.plan.specs.Collected.{isId, atOf, idOf, lineAmong};
-use crate::order::Mark;
+use crate::order::Line;
 
 // Whether id is among the first n.
 pub fn has_id(ids: &[u16], n: usize, id: u32) -> bool
@@ -39,14 +39,14 @@ pub fn line_of(ids: &[u16], n: usize, id: u16) -> u32
     0
 }
 
-// The columns of the first n marks: where the lines begin, and their ids.
+// Where lines begin, and their ids.
 pub struct Columns {
     pub lines: [u16; 64],
     pub ids: [u16; 64],
 }
 
-// The first n marks, by columns.
-pub fn columns_of(list: [Mark; 64], n: usize) -> Columns
+// The first n lines, by columns.
+pub fn columns_of(list: [Line; 64], n: usize) -> Columns
     requires { ⌜ n ≤ 64 ⌝ }
     ensures { λ r. ⌜ (take n (r .lines) ≡ map atOf (take n list)) × (take n (r .ids) ≡ map idOf (take n list)) × (length (r .lines) ≡ 64) × (length (r .ids) ≡ 64) ⌝ }
 {
@@ -54,9 +54,9 @@ pub fn columns_of(list: [Mark; 64], n: usize) -> Columns
     let mut ids = [0u16; 64];
     let mut i = 0;
     while i < n {
-        let m = list[i];
-        lines[i] = m.at;
-        ids[i] = m.id;
+        let line = list[i];
+        lines[i] = line.at;
+        ids[i] = line.id;
         i += 1;
     }
     Columns { lines, ids }

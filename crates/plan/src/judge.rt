@@ -50,8 +50,8 @@ pub fn judge(s: &[u8], h: Header, t: Lines) -> Reading
         return refusal(t.number, t.line);
     }
     let n = t.count;
-    let marks = t.marks;
-    let placed = columns_of(ordered(marks, n), n);
+    let list = t.list;
+    let placed = columns_of(ordered(list, n), n);
     let lines = placed.lines;
     let ids = placed.ids;
     let plan = Plan {

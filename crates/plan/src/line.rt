@@ -6,7 +6,7 @@ ghost use lib.ListN.{length};
 ghost use Rattle.rules.specs.Plan.{Header as HeaderValue};
 ghost use Rattle.plan.specs.View.{headerView, activityView, Sized};
 ghost use Rattle.plan.specs.Cursor.{numberOf, itemsOf};
-ghost use Rattle.plan.specs.LineAt.{lineAt, activityIn, Says};
+ghost use Rattle.plan.specs.LineAt.{lineAt, activityIn, LineSays};
 use crate::Activity;
 use crate::Header;
 use crate::activity_line::numbers;
@@ -26,7 +26,7 @@ fn line_at(s: &[u8], at: usize) -> &[u8]
 
 // The activity of the line that begins at `at`, in a plan with the header h.
 pub fn activity_at(s: &[u8], at: u16, h: Header) -> Activity
-    requires { ⌜ Says (headerView h) (now s) at ⌝ }
+    requires { ⌜ LineSays (headerView h) (now s) at ⌝ }
     ensures { λ r. ⌜ activityView r ≡ activityIn (headerView h) (now (s .entry)) at ⌝ }
     ensures { λ r. ⌜ Sized r ⌝ }
 {
@@ -38,7 +38,7 @@ pub fn activity_at(s: &[u8], at: u16, h: Header) -> Activity
 pub fn after_at(s: &[u8], at: u16) -> ListRead
     requires { ⌜ at ≤ length (now s) ⌝ }
     ensures { λ r. ⌜ r .count ≤ 8 ⌝ }
-    ensures { λ r. ⌜ ((h : HeaderValue) → Says h (now (s .entry)) at → map numberOf (itemsOf r) ≡ activityIn h (now (s .entry)) at .after) ⌝ }
+    ensures { λ r. ⌜ ((h : HeaderValue) → LineSays h (now (s .entry)) at → map numberOf (itemsOf r) ≡ activityIn h (now (s .entry)) at .after) ⌝ }
 {
     list_field(0, line_at(s, at as usize), 6, numbers(65535, 8))
 }

@@ -10,14 +10,14 @@ use lib.ListN.{take, drop, getD}
 use Rattle.rules.specs.Plan.{Header}
 use Rattle.rules.specs.Reading.{misplaced}
 use Rattle.plan.specs.View.{headerView, activitiesIn, planView}
-use Rattle.plan.specs.LineAt.{Says}
+use Rattle.plan.specs.LineAt.{LineSays}
 use Rattle.plan.specs.Collected.{idIn}
 use Rattle.plan.proofs.Places.{before, place-first, place-on, place-hit, place-end}
 use Rattle.plan.proofs.after.first_misplaced.Statement.{statement}
 use Rattle.plan.proofs.after.first_misplaced.Tie as tie
 
 abbrev Inv-loop : tie.InvT-loop
-Inv-loop s ids n lines left₀ left = (left ≤ n) × ((h : Header) → take n ids ≡ map (idIn h s) (take n lines) → ((k : ℕ) → k < n → Says h s (getD lines k 0)) → misplaced [] (activitiesIn h s (take n lines)) ≡ misplaced (before h s lines (n - left)) (activitiesIn h s (drop (n - left) (take n lines))))
+Inv-loop s ids n lines left₀ left = (left ≤ n) × ((h : Header) → take n ids ≡ map (idIn h s) (take n lines) → ((k : ℕ) → k < n → LineSays h s (getD lines k 0)) → misplaced [] (activitiesIn h s (take n lines)) ≡ misplaced (before h s lines (n - left)) (activitiesIn h s (drop (n - left) (take n lines))))
 
 abbrev μ-loop : tie.MeasureT-loop
 μ-loop s ids n lines left₀ left = left

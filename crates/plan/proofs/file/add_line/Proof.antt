@@ -10,8 +10,8 @@ use lib.ListN.{take, drop}
 use Rattle.rules.specs.Bytes.{bytes}
 use Rattle.plan.specs.View.{headerView, activityView}
 use Rattle.plan.specs.LinesView.{activitiesView}
-use Rattle.plan.specs.declared.order.Mark.{Mark}
-use Rattle.plan.proofs.LineAt.{mark-of, told}
+use Rattle.plan.specs.declared.order.Line.{Line}
+use Rattle.plan.proofs.LineAt.{line-in, line-fields}
 use Rattle.plan.proofs.Unless.{unless-value, unless-fault}
 use Rattle.plan.proofs.Lining.{form-is, line-2, line-5, line-fault, line-6, line-on, counted, from-refused, from-pushed, pushed-view, has-collected}
 use Rattle.plan.proofs.file.add_line.Statement.{statement}
@@ -120,7 +120,7 @@ narrow : (x : tie.Else3) → (let v = x .before .read-activity .result .activity
 unfolding activityView
 narrow x =
     let r = x .before .read-activity in
-    let n = told _ _ _ (sym (r .ensures .0) ∙ unless-value _ _ (x .if3 .left)) in
+    let n = line-fields _ _ _ (sym (r .ensures .0) ∙ unless-value _ _ (x .if3 .left)) in
     (n .id, n .priority)
 
 cast-t25 : tie.Need-cast-t25
@@ -148,8 +148,8 @@ returns-5 c =
     let g = f .before .before .before .before .pre in
     let u = c .push .ensures in
     let v = r .read-activity .result .activity in
-    let m : Mark = record { at = a .at; id = v .id; priority = v .priority } in
-    let k = mark-of (headerView (a .h)) (a .s .now) (a .end) m (activityView v) (g .1 .3) (omega arith) (sym (r .read-activity .ensures .0) ∙ unless-value _ _ (x .if3 .left)) refl refl in (
+    let m : Line = record { at = a .at; id = v .id; priority = v .priority } in
+    let k = line-in (headerView (a .h)) (a .s .now) (a .end) m (activityView v) (g .1 .3) (omega arith) (sym (r .read-activity .ensures .0) ∙ unless-value _ _ (x .if3 .left)) refl refl in (
       u .3 _ _ (g .0 .1) (k .0),
       λ line rest e q.
           from-pushed (headerView (a .h)) (a .s .now) (a .t) (c .push .result) line rest (g .0 .0) (activityView (r .read-activity .result .activity)) (u .0) (u .1) (pushed-view (headerView (a .h)) (a .s .now) (a .t) (c .push .result) m (u .2) ∙ ap (λ w. activitiesView (headerView (a .h)) (a .s .now) (a .t) ++ (w ∷ [])) (k .1))

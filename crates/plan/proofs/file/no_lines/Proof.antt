@@ -3,13 +3,13 @@
 use mathlib.Core.Path.{refl}
 use native.Mathlib.Omega.{arith}
 use borrow.Author.Needs.{needs}
-use Rattle.plan.specs.Collected.{AllMarked}
+use Rattle.plan.specs.Collected.{LinesIn}
 use Rattle.plan.proofs.file.no_lines.Statement.{statement}
 use Rattle.plan.proofs.file.no_lines.Tie as tie
 
 returns : tie.Need-returns
-unfolding AllMarked
-returns c = (refl, refl, λ h s. record { small = omega arith; ids-long = search needs; long = search needs; their-ids = refl; marked = tt })
+unfolding LinesIn
+returns c = (refl, refl, λ h s. record { small = omega arith; ids-long = search needs; long = search needs; their-ids = refl; said = tt })
 
 pub no-lines-spec : {M : Type 1} → statement M
 no-lines-spec = tie.close (tie.spec returns)

@@ -7,7 +7,7 @@ use borrow.Author.Needs.{needs}
 use lib.ListN.{length, take, length-set}
 use Rattle.plan.proofs.Fronts.{front-set, map-append}
 use Rattle.plan.specs.Collected.{idOf}
-use Rattle.plan.proofs.Ordering.{marked-append}
+use Rattle.plan.proofs.Ordering.{append-in}
 use Rattle.plan.proofs.file.push.Statement.{statement}
 use Rattle.plan.proofs.file.push.Tie as tie
 
@@ -17,11 +17,11 @@ mul-r c = search needs
 element-write-r : tie.Need-element-write-r
 element-write-r c = search needs
 
-mul-m : tie.Need-mul-m
-mul-m c = search needs
+mul-line : tie.Need-mul-line
+mul-line c = search needs
 
-element-set-from-m : tie.Need-element-set-from-m
-element-set-from-m c = search needs
+element-set-from-line : tie.Need-element-set-from-line
+element-set-from-line c = search needs
 
 add-r : tie.Need-add-r
 add-r c = search needs
@@ -29,10 +29,10 @@ add-r c = search needs
 returns : tie.Need-returns
 returns c =
     let t = c .args .t in
-    let m = c .args .m in
+    let l = c .args .line in
     let a = c .pre .1 in
     let b : length (t .ids) ≡ 64 = search needs in
-    let e = front-set (t .marks) (t .count) m (omega arith) in (
+    let e = front-set (t .list) (t .count) l (omega arith) in (
       refl,
       refl,
       e,
@@ -40,10 +40,10 @@ returns c =
         small = omega arith;
         ids-long = simp length-set b;
         long = simp length-set a;
-        their-ids = front-set (t .ids) (t .count) (m .id) (omega arith) ∙ rw (e, g .their-ids, map-append idOf (take (t .count) (t .marks)) (m ∷ []));
-        marked = rw e (marked-append h s (take (t .count) (t .marks)) m (g .marked) k);
+        their-ids = front-set (t .ids) (t .count) (l .id) (omega arith) ∙ rw (e, g .their-ids, map-append idOf (take (t .count) (t .list)) (l ∷ []));
+        said = rw e (append-in h s (take (t .count) (t .list)) l (g .said) k);
       },
     )
 
 pub push-spec : {M : Type 1} → statement M
-push-spec = tie.close (tie.spec mul-r element-write-r mul-m element-set-from-m add-r returns)
+push-spec = tie.close (tie.spec mul-r element-write-r mul-line element-set-from-line add-r returns)

@@ -12,7 +12,7 @@ add-r : tie.Need-add-r
 add-r c = search needs
 
 returns : tie.Need-returns
-returns c = (refl, refl, λ h s g. record { small = g .small; ids-long = g .ids-long; long = g .long; their-ids = g .their-ids; marked = g .marked })
+returns c = (refl, refl, λ h s g. record { small = g .small; ids-long = g .ids-long; long = g .long; their-ids = g .their-ids; said = g .said })
 
 pub refuse-spec : {M : Type 1} → statement M
 refuse-spec = tie.close (tie.spec cast-r add-r returns)

@@ -1,4 +1,4 @@
--- `ids::columns_of` meets its contract: the columns written are those of the marks passed.
+-- `ids::columns_of` meets its contract: the columns written are those of the lines passed.
 -- Assumes nothing.
 use Prim.Native.Nat.{_-_, _≤_}
 use mathlib.Core.Path.{_≡_, refl, _∙_}
@@ -6,7 +6,7 @@ use mathlib.Core.List.{map}
 use native.Mathlib.Omega.{arith}
 use borrow.Author.Needs.{needs}
 use lib.ListN.{length, take, length-set}
-use Rattle.plan.specs.Collected.{noMark, atOf, idOf}
+use Rattle.plan.specs.Collected.{blankLine, atOf, idOf}
 use Rattle.plan.proofs.Fronts.{front-more, front-set, map-append}
 use Rattle.plan.proofs.ids.columns_of.Statement.{statement}
 use Rattle.plan.proofs.ids.columns_of.Tie as tie
@@ -20,11 +20,11 @@ abbrev μ-loop : tie.MeasureT-loop
 loop-holds : tie.Need-loop-holds Inv-loop μ-loop
 loop-holds c = (omega arith, refl, refl, refl, refl)
 
-mul-m : tie.Need-mul-m Inv-loop μ-loop
-mul-m c = search needs
+mul-line : tie.Need-mul-line Inv-loop μ-loop
+mul-line c = search needs
 
-array-copy-out-m : tie.Need-array-copy-out-m Inv-loop μ-loop
-array-copy-out-m c = search needs
+array-copy-out-line : tie.Need-array-copy-out-line Inv-loop μ-loop
+array-copy-out-line c = search needs
 
 mul-lines : tie.Need-mul-lines Inv-loop μ-loop
 mul-lines c = search needs
@@ -52,8 +52,8 @@ loop-again c =
       omega arith,
       simp length-set (omega arith),
       simp length-set (omega arith),
-      front-set (l .loop .lines) (l .loop .i) _ (omega arith) ∙ rw (l .loop .inv .3, front-more list (l .loop .i) noMark (omega arith), map-append),
-      front-set (l .loop .ids) (l .loop .i) _ (omega arith) ∙ rw (l .loop .inv .4, front-more list (l .loop .i) noMark (omega arith), map-append),
+      front-set (l .loop .lines) (l .loop .i) _ (omega arith) ∙ rw (l .loop .inv .3, front-more list (l .loop .i) blankLine (omega arith), map-append),
+      front-set (l .loop .ids) (l .loop .i) _ (omega arith) ∙ rw (l .loop .inv .4, front-more list (l .loop .i) blankLine (omega arith), map-append),
     )
 
 returns : tie.Need-returns Inv-loop μ-loop
@@ -69,8 +69,8 @@ columns-of-spec =
     Inv-loop
     μ-loop
     loop-holds
-    mul-m
-    array-copy-out-m
+    mul-line
+    array-copy-out-line
     mul-lines
     array-write-lines
     mul-ids

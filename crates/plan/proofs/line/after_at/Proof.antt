@@ -7,7 +7,7 @@ use Rattle.rules.specs.Lines.{splitOn, field}
 use Rattle.rules.specs.Fields.{listField, numbers}
 use Rattle.plan.proofs.Unless.{unless-none}
 use Rattle.plan.proofs.Lists.{numbers-read}
-use Rattle.plan.proofs.LineAt.{read-as, told}
+use Rattle.plan.proofs.LineAt.{value-read, line-fields}
 use Rattle.plan.proofs.line.after_at.Statement.{statement}
 use Rattle.plan.proofs.line.after_at.Tie as tie
 
@@ -29,7 +29,7 @@ returns c =
     let f = n .numbers .ensures in (
       rw f at (e .1),
       λ h g.
-          read-as (r .fault) _ _ _ (numbers-read _ _ _ _ 65535 8 f (e .0) ∙ unless-none _ ∙ ap (λ w. listField (numbers 65535 8) (field (splitOn 9 w) 6)) (l .line-at .ensures)) (told h _ _ (g .says) .after),
+          value-read (r .fault) _ _ _ (numbers-read _ _ _ _ 65535 8 f (e .0) ∙ unless-none _ ∙ ap (λ w. listField (numbers 65535 8) (field (splitOn 9 w) 6)) (l .line-at .ensures)) (line-fields h _ _ (g .says) .after),
     )
 
 pub after-at-spec : {M : Type 1} → statement M
