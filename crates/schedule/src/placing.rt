@@ -110,14 +110,21 @@ fn placed_before(s: &[u8], plan: Plan, k: usize) -> Schedule
     schedule
 }
 
+// The answer at place k, beside the schedule of the places before it.
+fn answer_beside(s: &[u8], plan: Plan, k: usize, schedule: Schedule) -> Outcome
+    requires { ⌜ Placeable (now s) plan × (k < plan .count) × PlacedTo (now s) plan k schedule ⌝ }
+    ensures { λ r. ⌜ r ≡ outcome (planView (now (s .entry)) plan) k ⌝ }
+{
+    let header = plan.header;
+    reply_to(header, schedule, candidate_at(s, plan, k))
+}
+
 // The answer at place k.
 pub fn outcome_at(s: &[u8], plan: Plan, k: usize) -> Outcome
     requires { ⌜ Placeable (now s) plan × (k < plan .count) ⌝ }
     ensures { λ r. ⌜ r ≡ outcome (planView (now (s .entry)) plan) k ⌝ }
 {
-    let header = plan.header;
-    let schedule = placed_before(s, plan, k);
-    reply_to(header, schedule, candidate_at(s, plan, k))
+    answer_beside(s, plan, k, placed_before(s, plan, k))
 }
 
 // The table of sets of the candidate at place k, beside those placed at earlier places.
