@@ -1,0 +1,104 @@
+// The greedy placing, place by place (document 01, Placing and refusing): one loop, which keeps the answers by place and
+// puts the entry of each activity that is placed into the tables of what is placed. Both are lent by the caller.
+mod answers;
+mod next;
+
+use activity::Activity;
+pub use answers::outcome_of;
+pub use next::candidate_at;
+use next::place_next;
+use placed::put_candidate;
+use plan::Plan;
+use rules::Outcome;
+use rules::PLACES;
+use rules::TICKS;
+ghost use mathlib.Core.Path.{_≡_};
+ghost use Prim.Native.Nat.{_≤_, _<_};
+ghost use lib.ListN.{length};
+ghost use Rattle.rules.specs.Outcomes.{starts, activityAt, placed, outcome};
+ghost use Rattle.rules.specs.Conditions.{meets};
+ghost use Rattle.activity.specs.View.{headerView};
+ghost use Rattle.plan.specs.View.{planView};
+ghost use Rattle.sets.specs.Table.{Table};
+ghost use Rattle.placing.specs.Places.{Placeable, Candidate, Sized, PlacedTo, AnsweredTo};
+
+// Answers the first k places in order, and answers how many of them are placed: the rows of the tables.
+pub fn place_to(
+    s: &[u8],
+    plan: Plan,
+    k: usize,
+    answers: &mut [u16; PLACES],
+    ticks: &mut [u16; 256],
+    amounts: &mut [u32; 256],
+    settings: &mut [u16; 1024],
+    units: &mut [u8; 2048],
+) -> usize
+    requires { ⌜ Placeable (now s) plan × (k ≤ plan .count) × (length (now answers) ≡ 64) × Sized (now ticks) (now amounts) (now settings) (now units) ⌝ }
+    ensures { λ r. ⌜ PlacedTo (now (s .entry)) plan k r (now (ticks .exit)) (now (amounts .exit)) (now (settings .exit)) (now (units .exit)) ⌝ }
+    ensures { λ _. ⌜ AnsweredTo (now (s .entry)) plan k (now (answers .exit)) ⌝ }
+{
+    let mut n = 0;
+    let mut i = 0;
+    while i < k {
+        n = place_next(s, plan, i, n, answers, ticks, amounts, settings, units);
+        i += 1;
+    }
+    n
+}
+
+// The answer at place k.
+pub fn outcome_at(s: &[u8], plan: Plan, k: usize) -> Outcome
+    requires { ⌜ Placeable (now s) plan × (k < plan .count) ⌝ }
+    ensures { λ r. ⌜ r ≡ outcome (planView (now (s .entry)) plan) k ⌝ }
+{
+    let mut answers = [0u16; PLACES];
+    let mut ticks = [0u16; 256];
+    let mut amounts = [0u32; 256];
+    let mut settings = [0u16; 1024];
+    let mut units = [0u8; 2048];
+    place_to(
+        s,
+        plan,
+        k + 1,
+        &mut answers,
+        &mut ticks,
+        &mut amounts,
+        &mut settings,
+        &mut units,
+    );
+    outcome_of(answers[k])
+}
+
+// Fills the table of sets of the candidate at place k, beside those placed at earlier places.
+pub fn fill_at(s: &[u8], plan: Plan, k: usize, candidate: Activity, table: &mut [u16; TICKS])
+    requires { ⌜ Placeable (now s) plan × Candidate (now s) plan k candidate ⌝ }
+    ensures { λ _. ⌜ Table (meets (headerView (plan .header)) (placed (planView (now (s .entry)) plan) k) (activityAt (planView (now (s .entry)) plan) k)) (starts (headerView (plan .header)) (activityAt (planView (now (s .entry)) plan) k)) (now (table .exit)) ⌝ }
+{
+    let mut answers = [0u16; PLACES];
+    let mut ticks = [0u16; 256];
+    let mut amounts = [0u32; 256];
+    let mut settings = [0u16; 1024];
+    let mut units = [0u8; 2048];
+    let n = place_to(
+        s,
+        plan,
+        k,
+        &mut answers,
+        &mut ticks,
+        &mut amounts,
+        &mut settings,
+        &mut units,
+    );
+    put_candidate(candidate, n, &mut amounts, &mut settings, &mut units);
+    let header = plan.header;
+    conditions::fill(
+        header,
+        candidate,
+        &ticks,
+        &amounts,
+        &settings,
+        &units,
+        n,
+        table,
+    );
+}
