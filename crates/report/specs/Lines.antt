@@ -16,6 +16,19 @@ pub record Wrote (old : List ℕ) (at : ℕ) (w new : List ℕ) (next : ℕ) : T
   pub holds : new ≡ put old at w
   pub behind : next ≡ at + length w
 
+-- the most bytes of an activity's line, of the end line, of the `no` line and of a report, where each number is given 20 digits
+abbrev pub lineMost : ℕ
+lineMost = 70
+
+abbrev pub endMost : ℕ
+endMost = 88
+
+abbrev pub noMost : ℕ
+noMost = 45
+
+abbrev pub reportMost : ℕ
+reportMost = 4608
+
 -- the line of an activity of this id and duration
 unfoldable pub outcomeText : ℕ → ℕ → Outcome → List ℕ
 outcomeText id duration (Placed s) = lineOf (decimal id ∷ bytes "placed" ∷ decimal s ∷ decimal (s + duration) ∷ [])

@@ -6,7 +6,7 @@ ghost use Rattle.rules.specs.Bytes.{bytes};
 ghost use Rattle.rules.specs.Number.{decimal};
 ghost use Rattle.rules.specs.Lines.{lineOf};
 ghost use Rattle.rules.specs.Conditions.{lettersOf};
-ghost use Rattle.report.specs.Lines.{Wrote, outcomeText, endText, noText};
+ghost use Rattle.report.specs.Lines.{Wrote, outcomeText, endText, noText, lineMost, endMost, noMost};
 use rules::Outcome;
 
 // Writes a tab and a word.
@@ -29,8 +29,8 @@ fn put_field(out: &mut [u8], at: usize, x: u64) -> usize
 
 // Writes the line of an activity that is placed.
 fn put_placed(out: &mut [u8], at: usize, id: u64, start: u64, end: u64) -> usize
-    requires { ⌜ at + 70 ≤ length (now out) ⌝ }
-    ensures { λ r. ⌜ Wrote (now (out .entry)) at (lineOf (decimal id ∷ bytes "placed" ∷ decimal start ∷ decimal end ∷ [])) (now (out .exit)) r × (r ≤ at + 70) ⌝ }
+    requires { ⌜ at + lineMost ≤ length (now out) ⌝ }
+    ensures { λ r. ⌜ Wrote (now (out .entry)) at (lineOf (decimal id ∷ bytes "placed" ∷ decimal start ∷ decimal end ∷ [])) (now (out .exit)) r × (r ≤ at + lineMost) ⌝ }
 {
     let a = text::number::put_number(out, at, id);
     let b = put_word(out, a, &text::word::PLACED);
@@ -48,8 +48,8 @@ pub fn put_end(
     charge: u64,
     volume: u64,
 ) -> usize
-    requires { ⌜ at + 88 ≤ length (now out) ⌝ }
-    ensures { λ r. ⌜ Wrote (now (out .entry)) at (endText placed refused charge volume) (now (out .exit)) r × (r ≤ at + 88) ⌝ }
+    requires { ⌜ at + endMost ≤ length (now out) ⌝ }
+    ensures { λ r. ⌜ Wrote (now (out .entry)) at (endText placed refused charge volume) (now (out .exit)) r × (r ≤ at + endMost) ⌝ }
 {
     let a = text::word::put_bytes(out, at, b"end");
     let b = put_field(out, a, placed);
@@ -61,8 +61,8 @@ pub fn put_end(
 
 // Writes the line of a refused plan.
 pub fn put_no(out: &mut [u8], at: usize, number: u64, line: u64) -> usize
-    requires { ⌜ at + 45 ≤ length (now out) ⌝ }
-    ensures { λ r. ⌜ Wrote (now (out .entry)) at (noText number line) (now (out .exit)) r × (r ≤ at + 45) ⌝ }
+    requires { ⌜ at + noMost ≤ length (now out) ⌝ }
+    ensures { λ r. ⌜ Wrote (now (out .entry)) at (noText number line) (now (out .exit)) r × (r ≤ at + noMost) ⌝ }
 {
     let a = text::word::put_bytes(out, at, b"no");
     let b = put_field(out, a, number);
@@ -72,8 +72,8 @@ pub fn put_no(out: &mut [u8], at: usize, number: u64, line: u64) -> usize
 
 // Writes the line of an activity that is refused.
 fn put_refused(out: &mut [u8], at: usize, id: u64, set: u32) -> usize
-    requires { ⌜ at + 70 ≤ length (now out) ⌝ }
-    ensures { λ r. ⌜ Wrote (now (out .entry)) at (lineOf (decimal id ∷ bytes "refused" ∷ lettersOf set ∷ [])) (now (out .exit)) r × (r ≤ at + 70) ⌝ }
+    requires { ⌜ at + lineMost ≤ length (now out) ⌝ }
+    ensures { λ r. ⌜ Wrote (now (out .entry)) at (lineOf (decimal id ∷ bytes "refused" ∷ lettersOf set ∷ [])) (now (out .exit)) r × (r ≤ at + lineMost) ⌝ }
 {
     let a = text::number::put_number(out, at, id);
     let b = put_word(out, a, &text::word::REFUSED);
@@ -84,8 +84,8 @@ fn put_refused(out: &mut [u8], at: usize, id: u64, set: u32) -> usize
 
 // Writes the line of an activity of this id and duration.
 pub fn put_outcome(out: &mut [u8], at: usize, id: u32, duration: u32, outcome: Outcome) -> usize
-    requires { ⌜ at + 70 ≤ length (now out) ⌝ }
-    ensures { λ r. ⌜ Wrote (now (out .entry)) at (outcomeText id duration outcome) (now (out .exit)) r × (r ≤ at + 70) ⌝ }
+    requires { ⌜ at + lineMost ≤ length (now out) ⌝ }
+    ensures { λ r. ⌜ Wrote (now (out .entry)) at (outcomeText id duration outcome) (now (out .exit)) r × (r ≤ at + lineMost) ⌝ }
 {
     match outcome {
         Outcome::Placed(s) => put_placed(out, at, id as u64, s as u64, s as u64 + duration as u64),

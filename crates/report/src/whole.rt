@@ -1,48 +1,84 @@
 // The whole report: a line for each place, then the end line.
-ghost use Prim.Native.Nat.{_+_, _≤_};
+ghost use mathlib.Core.Path.{_≡_};
+ghost use Prim.Native.Nat.{_+_, _*_, _≤_};
 ghost use lib.ListN.{length};
-ghost use Rattle.rules.specs.Report.{endLine, report};
-ghost use Rattle.plan.specs.View.{headerView, planView};
-ghost use Rattle.placed.specs.View.{scheduleView};
-ghost use Rattle.placed.specs.Ready.{Reached, Bounded};
-ghost use Rattle.schedule.specs.Places.{Placeable};
-ghost use Rattle.report.specs.Lines.{Wrote};
-use placed::Schedule;
+ghost use Rattle.rules.specs.Plan.{Schedule};
+ghost use Rattle.rules.specs.Report.{outcomeLines, endLine, report};
+ghost use Rattle.activity.specs.View.{headerView};
+ghost use Rattle.plan.specs.View.{planView};
+ghost use Rattle.placing.specs.Places.{Placeable, AnsweredTo};
+ghost use Rattle.report.specs.Lines.{Wrote, lineMost, endMost, reportMost};
+ghost use Rattle.report.specs.Finished.{RowsSay, Finished};
+use activity::Header;
+use placed::total_volume;
+use placing::candidate_at;
+use placing::outcome_of;
+use placing::place_to;
 use plan::Plan;
-use schedule::placing::candidate_at;
-use schedule::placing::nothing_placed;
-use schedule::placing::reply_to;
-use schedule::placing::with_outcome;
+use rules::PLACES;
 
-// Writes the end line of the finished schedule.
-fn put_finished(plan: Plan, schedule: Schedule, out: &mut [u8], at: usize) -> usize
-    requires { ⌜ Reached (headerView (plan .header)) (scheduleView schedule) × Bounded schedule × (schedule .count ≤ plan .count) × (at + 88 ≤ length (now out)) ⌝ }
-    ensures { λ r. ⌜ Wrote (now (out .entry)) at (endLine (headerView (plan .header)) (plan .count) (scheduleView schedule)) (now (out .exit)) r × (r ≤ at + 88) ⌝ }
-{
-    let header = plan.header;
-    let placed = schedule.count;
-    let refused = plan.count - placed;
-    let charge = charge::last_charge(header, schedule);
-    let volume = conditions::total_volume(schedule);
-    super::line::put_end(out, at, placed as u64, refused as u64, charge, volume)
-}
+// The room that a report is given: for a line of each place and the end line, by the bounds of a line.
+pub const REPORT: usize = 4608;
 
-// Writes the report of a plan, whose lines are those of s, and answers its length: 64 lines of 70 bytes and the end line of 88 at most.
-pub fn put_report(s: &[u8], plan: Plan, out: &mut [u8; 4608]) -> usize
-    requires { ⌜ Placeable (now s) plan ⌝ }
-    ensures { λ r. ⌜ Wrote (now (out .entry)) 0 (report (planView (now (s .entry)) plan)) (now (out .exit)) r × (r ≤ 4608) ⌝ }
+// Writes the lines of all places by their answers.
+fn put_lines(s: &[u8], plan: Plan, answers: &[u16; PLACES], out: &mut [u8]) -> usize
+    requires { ⌜ Placeable (now s) plan × AnsweredTo (now s) plan (plan .count) (now answers) × (plan .count * lineMost ≤ length (now out)) ⌝ }
+    ensures { λ r. ⌜ Wrote (now (out .entry)) 0 (outcomeLines (planView (now (s .entry)) plan) (plan .count)) (now (out .exit)) r × (r ≤ plan .count * lineMost) ⌝ }
 {
     let n = plan.count;
-    let header = plan.header;
-    let mut schedule = nothing_placed();
     let mut at = 0;
     let mut k = 0;
     while k < n {
-        let candidate = candidate_at(s, plan, k);
-        let answer = reply_to(header, schedule, candidate);
-        at = super::line::put_outcome(out, at, candidate.id, candidate.duration, answer);
-        schedule = with_outcome(schedule, candidate, answer);
+        let activity = candidate_at(s, plan, k);
+        let outcome = outcome_of(answers[k]);
+        at = super::line::put_outcome(out, at, activity.id, activity.duration, outcome);
         k += 1;
     }
-    put_finished(plan, schedule, out, at)
+    at
+}
+
+// Writes the end line of a plan of `count` activities, of which the n rows of the tables are placed.
+fn put_finished<'a>(
+    header: Header,
+    count: usize,
+    ticks: &'a [u16; 256],
+    amounts: &'a [u32; 256],
+    n: usize,
+    out: &mut [u8],
+    at: usize,
+) -> usize
+    requires { ⌜ Finished header (now ticks) (now amounts) n × (n ≤ count) × (at + endMost ≤ length (now out)) ⌝ }
+    ensures { λ r. ⌜ r ≤ at + endMost ⌝ }
+    ensures { λ r. ⌜ ((placed : Schedule) → RowsSay header (now (ticks .entry)) (now (amounts .entry)) n placed → Wrote (now (out .entry)) at (endLine (headerView header) count placed) (now (out .exit)) r) ⌝ }
+{
+    let refused = count - n;
+    let charge = charge::last_charge(header, ticks, amounts, n);
+    let volume = total_volume(amounts, n);
+    super::line::put_end(out, at, n as u64, refused as u64, charge, volume)
+}
+
+// Writes the report of a plan, whose lines are those of s, and answers its length.
+pub fn put_report(s: &[u8], plan: Plan, out: &mut [u8; REPORT]) -> usize
+    requires { ⌜ Placeable (now s) plan × (length (now out) ≡ reportMost) ⌝ }
+    ensures { λ r. ⌜ Wrote (now (out .entry)) 0 (report (planView (now (s .entry)) plan)) (now (out .exit)) r × (r ≤ reportMost) ⌝ }
+{
+    let mut answers = [0u16; PLACES];
+    let mut ticks = [0u16; 256];
+    let mut amounts = [0u32; 256];
+    let mut settings = [0u16; 1024];
+    let mut units = [0u8; 2048];
+    let count = plan.count;
+    let n = place_to(
+        s,
+        plan,
+        count,
+        &mut answers,
+        &mut ticks,
+        &mut amounts,
+        &mut settings,
+        &mut units,
+    );
+    let at = put_lines(s, plan, &answers, out);
+    let header = plan.header;
+    put_finished(header, count, &ticks, &amounts, n, out, at)
 }

@@ -9,7 +9,7 @@ use Rattle.rules.specs.Tests.{ever}
 use Rattle.rules.specs.Conditions.{conditionCount, allConditions, has, meetsSet}
 use Rattle.rules.specs.Answer.{nearest, common, kept, letters, valid, answered, answer}
 use Rattle.rules.specs.Runs.{runsFrom}
-use Rattle.placed.proofs.Lists.{each-same}
+use Rattle.rules.proofs.Lists.{each-same}
 use Rattle.schedule.proofs.Nearer.{nearest-same}
 
 ever-same : (p q : ℕ → Bool) (n : ℕ) → ((k : ℕ) → k < n → p k ≡ q k) → ever p n ≡ ever q n

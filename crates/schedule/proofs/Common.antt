@@ -11,7 +11,7 @@ use Rattle.rules.specs.Conditions.{meetsSet}
 use Rattle.rules.specs.Answer.{common}
 use Rattle.rules.proofs.Tests.{ever-at}
 use Rattle.schedule.specs.Search.{testIn}
-use Rattle.placed.specs.Marked.{holdsSet}
+use Rattle.sets.specs.Sets.{holdsSet}
 
 -- what `contains` says of a start's set is what the test of the table says
 pub contains-meets : (table : List ℕ) (m s : ℕ) → holdsSet (getD table s 0) m ≡ meetsSet (testIn table) m s

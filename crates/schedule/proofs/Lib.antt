@@ -6,5 +6,3 @@ pub mod Common
 pub mod Agree
 pub mod Reply
 pub mod Tabled
-pub mod Growing
-pub mod PlaceByPlace

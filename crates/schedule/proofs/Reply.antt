@@ -1,42 +1,32 @@
 -- The answer that a table of sets gives, by what the search for the nearest valid start finds.
 -- Assumes nothing.
-use Prim.Native.Nat.{ℕ, suc, _≤_}
-use mathlib.Core.Path.{_≡_, refl, sym, _∙_}
-use mathlib.Core.Bool.{Bool, true, false, Bool·beq}
+use Prim.Native.Nat.{ℕ, _≤_}
+use mathlib.Core.Path.{_≡_, sym, _∙_}
 use mathlib.Core.List.{List}
 use native.Mathlib.Omega.{arith}
 use lib.Dec.{eqb}
 use lib.ListN.{getD}
-use Rattle.rules.specs.Tests.{each}
-use Rattle.rules.specs.Conditions.{allConditions, has}
+use borrow.Author.Tests.{eq-eqb, eqb-true}
+use Rattle.rules.specs.Conditions.{conditionCount, allConditions, has, meetsSet}
 use Rattle.rules.specs.Answer.{nearest, letters, valid, answered, answer}
 use Rattle.rules.specs.declared.Outcome.the-variants.{Placed, Refused}
-use Rattle.rules.proofs.Tests.{each-at}
+use Rattle.rules.proofs.Local.{bool-ext}
+use Rattle.rules.proofs.Sets.{all-of-them, by-letters, meets-at, meets-all}
 use Rattle.schedule.specs.Found.{optionOf, isValid, toPreferred}
 use Rattle.schedule.specs.Search.{testIn}
-use Rattle.placed.specs.Marked.{holdsSet}
+use Rattle.sets.specs.Sets.{holdsSet}
 use Rattle.schedule.specs.declared.nearest.Found.{Found}
 use Rattle.schedule.specs.declared.nearest.Found.the-variants.{At, Nothing}
 use Rattle.schedule.proofs.Common.{contains-meets}
 use Rattle.schedule.proofs.Nearer.{nearest-same}
 
-beq-eq : (x y : Bool) → Bool·beq x y ≡ true → x ≡ y
-beq-eq true true e = refl
-beq-eq true false e = sym e
-beq-eq false true e = e
-beq-eq false false e = refl
-
 -- a set contains all conditions exactly when it is the set of all
-full : ℕ → Bool
-full e = Bool·beq (eqb e allConditions) (holdsSet e allConditions)
-
-all-full : each full (suc allConditions) ≡ true
-unfolding each full holdsSet has
-all-full = refl
-
 full-is : (e : ℕ) → e ≤ allConditions → eqb e allConditions ≡ holdsSet e allConditions
-unfolding full
-full-is e h = beq-eq _ _ (each-at full (suc allConditions) e all-full (omega arith))
+unfolding holdsSet meetsSet
+full-is e h =
+    bool-ext (eqb e allConditions) (holdsSet e allConditions)
+    (λ q. meets-all (λ c s. has e c) allConditions 0 (λ c k f. rw (eqb-true e allConditions q) f))
+    (λ q. eq-eqb e allConditions (by-letters conditionCount e allConditions (omega arith) (omega arith) (λ c k. meets-at (λ c s. has e c) allConditions 0 c q k (all-of-them c k) ∙ sym (all-of-them c k))))
 
 module _ (table : List ℕ) (n preferred : ℕ) (small : (s : ℕ) → getD table s 0 ≤ allConditions) (found : Found) (e : optionOf found ≡ nearest (isValid table) (toPreferred preferred) n) where
   nearest-valid : nearest (isValid table) (toPreferred preferred) n ≡ nearest (valid (testIn table) n) (toPreferred preferred) n

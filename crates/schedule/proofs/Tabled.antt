@@ -11,8 +11,9 @@ use borrow.Author.Tests.{ltb-true, ltb-false}
 use Rattle.rules.specs.Conditions.{conditionCount, allConditions, has, meetsSet}
 use Rattle.rules.specs.Answer.{answer}
 use Rattle.rules.specs.Runs.{runsFrom}
-use Rattle.placed.specs.Marked.{metSet, Table}
-use Rattle.conditions.proofs.MetSets.{has-met, met-low}
+use Rattle.sets.specs.Sets.{metSet}
+use Rattle.sets.specs.Table.{Table}
+use Rattle.sets.proofs.MetSets.{has-met, met-low}
 use Rattle.schedule.specs.Search.{testIn, meetsIn}
 use Rattle.schedule.proofs.Agree.{answer-alike, runs-alike, meets-alike}
 use Rattle.schedule.proofs.Common.{contains-meets}

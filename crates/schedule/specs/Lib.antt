@@ -1,4 +1,2 @@
 pub mod Found
 pub mod Search
-pub mod Grown
-pub mod Places

@@ -3,7 +3,7 @@ use Prim.Native.Nat.{ℕ, zero, suc}
 use mathlib.Core.Bool.{Bool, false, cond, not, _||_, _&&_}
 use mathlib.Core.List.{List}
 use lib.ListN.{getD}
-use Rattle.placed.specs.Marked.{holdsSet}
+use Rattle.sets.specs.Sets.{holdsSet}
 use Rattle.rules.specs.Conditions.{has}
 use Rattle.rules.specs.declared.Interval.{Interval}
 

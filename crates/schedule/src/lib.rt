@@ -1,6 +1,5 @@
-// Placing and refusing, place by place, and the runs of starts (document 01, Placing and refusing; Calls).
+// What a table of sets says of a candidate: how it is answered, and its runs of starts (document 01, Placing and refusing; Calls).
 mod letters;
 mod nearest;
-mod outcome;
-pub mod placing;
+pub mod outcome;
 pub mod runs;

@@ -7,6 +7,7 @@ ghost use Rattle.rules.specs.Warmup.{apart};
 ghost use Rattle.rules.specs.Conditions.{allConditions};
 ghost use Rattle.rules.specs.Answer.{nearer, nearest};
 ghost use Rattle.schedule.specs.Found.{optionOf, isValid, toPreferred};
+use rules::ALL_CONDITIONS;
 
 // A start, where there is one.
 pub enum Found {
@@ -26,10 +27,10 @@ fn distance(s: u32, preferred: u32) -> u32
 }
 
 // The start s if it is valid, or the best of those before it: the nearer, of two equally near the earlier.
-fn nearer_of(set: u32, s: u32, preferred: u32, best: Found) -> Found
+fn nearer_of(set: u16, s: u32, preferred: u32, best: Found) -> Found
     ensures { λ r. ⌜ optionOf r ≡ nearer (toPreferred preferred) (eqb set allConditions) s (optionOf best) ⌝ }
 {
-    if set != 511 {
+    if set != ALL_CONDITIONS {
         return best;
     }
     let Found::At(b) = best else {
@@ -43,7 +44,7 @@ fn nearer_of(set: u32, s: u32, preferred: u32, best: Found) -> Found
 }
 
 // Of the first `count` starts of a table of sets, the valid one nearest to the preferred tick.
-pub fn nearest_of(table: &[u32], count: u32, preferred: u32) -> Found
+pub fn nearest_of(table: &[u16], count: u32, preferred: u32) -> Found
     requires { ⌜ count ≤ length (now table) ⌝ }
     ensures { λ r. ⌜ optionOf r ≡ nearest (isValid (now (table .entry))) (toPreferred preferred) count ⌝ }
 {

@@ -22,7 +22,7 @@ fn ends_run(passes: bool, next: bool) -> usize
 }
 
 // How many runs of starts meet the set, of the first `count` starts of the table.
-pub fn count_runs(table: &[u32], count: u32, set: u32) -> usize
+pub fn count_runs(table: &[u16], count: u32, set: u16) -> usize
     requires { ⌜ count ≤ length (now table) ⌝ }
     ensures { λ r. ⌜ (r ≡ length (runsFrom (meetsIn (now (table .entry)) set) 0 count)) × (r ≤ count) ⌝ }
 {
@@ -32,7 +32,7 @@ pub fn count_runs(table: &[u32], count: u32, set: u32) -> usize
     while 0 < s {
         s -= 1;
         let at = s as usize;
-        let passes = conditions::contains(table[at], set);
+        let passes = sets::contains(table[at], set);
         runs += ends_run(passes, next);
         next = passes;
     }
@@ -64,7 +64,7 @@ fn write_if(written: bool, out: &mut [u32], at: usize, s: u32)
 
 // Writes the firsts, or the lasts, of the runs of starts that meet the set, from the last run to the first. Of a run's
 // starts, each earlier one is written over the later as its first.
-pub fn write_column(table: &[u32], count: u32, set: u32, runs: usize, first: bool, out: &mut [u32])
+pub fn write_column(table: &[u16], count: u32, set: u16, runs: usize, first: bool, out: &mut [u32])
     requires { ⌜ (count ≤ length (now table)) × (runs ≡ length (runsFrom (meetsIn (now table) set) 0 count)) × (runs ≤ length (now out)) ⌝ }
     ensures { λ _. ⌜ now (out .exit) ≡ sliceAfter (map (column first) (runsFrom (meetsIn (now (table .entry)) set) 0 count)) (now (out .entry)) ⌝ }
 {
@@ -74,7 +74,7 @@ pub fn write_column(table: &[u32], count: u32, set: u32, runs: usize, first: boo
     while 0 < s {
         s -= 1;
         let at = s as usize;
-        let passes = conditions::contains(table[at], set);
+        let passes = sets::contains(table[at], set);
         to -= ends_run(passes, next);
         write_if(is_written(first, passes, next), out, to, s);
         next = passes;

@@ -47,11 +47,11 @@ pub fn letter(c: u32) -> u8
 }
 
 // Whether a set has condition number c.
-pub fn has_condition(set: u16, c: u32) -> bool
+pub fn has_condition(set: u32, c: u32) -> bool
     requires { ⌜ c < conditionCount ⌝ }
     ensures { λ r. ⌜ r ≡ has set c ⌝ }
 {
-    let by = bit(c);
+    let by = bit(c) as u32;
     set / by % 2 == 1
 }
 
@@ -60,8 +60,8 @@ fn has_if(entry: u16, set: u16, c: u32) -> bool
     requires { ⌜ c < conditionCount ⌝ }
     ensures { λ r. ⌜ r ≡ (not (has set c) || has entry c) ⌝ }
 {
-    if has_condition(set, c) {
-        return has_condition(entry, c);
+    if has_condition(set as u32, c) {
+        return has_condition(entry as u32, c);
     }
     true
 }

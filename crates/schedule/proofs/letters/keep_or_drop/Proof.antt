@@ -4,7 +4,7 @@ use mathlib.Core.Path.{_≡_, _∙_}
 use Prim.Native.Nat.{_^_}
 use native.Mathlib.Omega.{arith}
 use borrow.Author.Needs.{needs}
-use Rattle.conditions.proofs.Picked.{bit-is}
+use Rattle.sets.proofs.Bits.{bit-is}
 use Rattle.schedule.proofs.letters.keep_or_drop.Statement.{statement}
 use Rattle.schedule.proofs.letters.keep_or_drop.Tie as tie
 

@@ -6,8 +6,9 @@ use native.Mathlib.Numerals.{add-one}
 use native.Mathlib.Omega.{arith}
 use Rattle.rules.specs.Conditions.{conditionCount}
 use Rattle.rules.specs.Answer.{common, kept, letters}
+use Rattle.rules.proofs.Sets.{power-in}
 use Rattle.schedule.specs.Search.{testIn}
-use Rattle.schedule.proofs.Turns.{Ahead, ahead-all, ahead-next, bit-most}
+use Rattle.schedule.proofs.Turns.{Ahead, ahead-all, ahead-next}
 use Rattle.schedule.proofs.letters.letters_of.Statement.{statement}
 use Rattle.schedule.proofs.letters.letters_of.Tie as tie
 
@@ -24,7 +25,7 @@ loop-holds c = (omega arith, refl, ahead-all)
 keep-or-drop-requires : tie.Need-keep-or-drop-requires Inv-loop μ-loop
 keep-or-drop-requires c κs =
     let inv = c .before .loop .inv in
-    (omega arith, omega arith, bit-most _ _ (inv .2 .ahead (c .before .loop .c) (omega arith) (omega arith)))
+    (omega arith, omega arith, power-in _ _ (inv .2 .ahead (c .before .loop .c) (omega arith) (omega arith)))
 
 add-c : tie.Need-add-c Inv-loop μ-loop
 add-c c = omega arith

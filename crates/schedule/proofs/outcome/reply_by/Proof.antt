@@ -17,6 +17,9 @@ enum-told c = search needs
 letters-of-requires : tie.Need-letters-of-requires
 letters-of-requires c κs = search needs
 
+cast-t11 : tie.Need-cast-t11
+cast-t11 c = search needs
+
 returns : tie.Need-returns
 returns c =
     let start = c .before .before .before .before .before .before in
@@ -28,4 +31,4 @@ returns-2 c =
     placed (start .args .table .now) _ _ (start .pre .1) _ (c .before .before .before .nearest-of .ensures) _ (c .before .found .given .1)
 
 pub reply-by-spec : {M : Type 1} → statement M
-reply-by-spec = tie.close (tie.spec nearest-of-requires enum-known-found enum-told letters-of-requires returns returns-2)
+reply-by-spec = tie.close (tie.spec nearest-of-requires enum-known-found enum-told letters-of-requires cast-t11 returns returns-2)
