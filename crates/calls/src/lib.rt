@@ -5,15 +5,18 @@ ghost use lib.ListN.{length, take};
 ghost use Rattle.rules.specs.Calls.{countTerms, refusal, filling, runs};
 ghost use Rattle.plan.specs.View.{planView};
 ghost use Rattle.rules.specs.Runs.{runsFrom};
-ghost use Rattle.schedule.specs.Places.{Placeable};
+ghost use Rattle.placing.specs.Places.{Placeable};
 ghost use Rattle.schedule.specs.Search.{meetsIn};
 ghost use Rattle.calls.specs.Read.{ReadAs};
 ghost use Rattle.calls.specs.Called.{OutcomeCalled, SliceFilled, ReportCalled, ColumnsFilled, StartsCalled, OutputCalled};
 use plan::Plan;
 use plan::Reading;
+use report::whole::REPORT;
+use rules::ALL_CONDITIONS;
 use rules::CountAnswer;
 use rules::OutcomeAnswer;
 use rules::Refusal;
+use rules::TICKS;
 
 // A refusal in place of a count.
 fn refuse(number: u32, line: u32) -> CountAnswer
@@ -48,7 +51,7 @@ pub fn outcome(bytes: &[u8], place: usize) -> OutcomeAnswer
             line: 0,
         });
     }
-    OutcomeAnswer::Answer(schedule::placing::outcome_at(bytes, plan, place))
+    OutcomeAnswer::Answer(placing::outcome_at(bytes, plan, place))
 }
 
 // Copies a text to the front of a slice and answers its length; a slice too short for it remains.
@@ -70,16 +73,16 @@ pub fn report(bytes: &[u8], out: &mut [u8]) -> CountAnswer
     if reading.number != 0 {
         return refuse(reading.number, reading.line);
     }
-    let mut written = [0u8; 4608];
+    let mut written = [0u8; REPORT];
     let length = report::whole::put_report(bytes, reading.plan, &mut written);
     hand_over(&written[..length], out)
 }
 
 // Writes the runs of starts of a table that meet a set of conditions, and answers their count.
 fn write_runs(
-    table: &[u32; 4096],
+    table: &[u16; TICKS],
     count: u32,
-    set: u32,
+    set: u16,
     firsts: &mut [u32],
     lasts: &mut [u32],
 ) -> CountAnswer
@@ -103,17 +106,15 @@ fn runs_at(
     bytes: &[u8],
     plan: Plan,
     place: usize,
-    set: u32,
+    set: u16,
     firsts: &mut [u32],
     lasts: &mut [u32],
 ) -> CountAnswer
     requires { ⌜ Placeable (now bytes) plan × (place < plan .count) ⌝ }
     ensures { λ r. ⌜ ColumnsFilled (filling (min (length (now (firsts .entry))) (length (now (lasts .entry)))) (runs (planView (now (bytes .entry)) plan) place set)) (now (firsts .entry)) (now (lasts .entry)) r (now (firsts .exit)) (now (lasts .exit)) ⌝ }
 {
-    let header = plan.header;
-    let candidate = schedule::placing::candidate_at(bytes, plan, place);
-    let table = schedule::placing::table_at(bytes, plan, place, candidate);
-    let count = conditions::start_count(header, candidate);
+    let mut table = [0u16; TICKS];
+    let count = placing::fill_at(bytes, plan, place, &mut table);
     write_runs(&table, count, set, firsts, lasts)
 }
 
@@ -137,14 +138,14 @@ pub fn starts(
     if count <= place {
         return refuse(11, 0);
     }
-    if 511 < set {
+    if ALL_CONDITIONS as u32 < set {
         return refuse(12, 0);
     }
-    runs_at(bytes, plan, place, set, firsts, lasts)
+    runs_at(bytes, plan, place, set as u16, firsts, lasts)
 }
 
 // What the program prints, the report or the `no` line, written to the front of `out`; answers its length.
-pub fn output(bytes: &[u8], out: &mut [u8; 4608]) -> usize
+pub fn output(bytes: &[u8], out: &mut [u8; REPORT]) -> usize
     ensures { λ r. ⌜ OutputCalled (now (bytes .entry)) (now (out .entry)) r (now (out .exit)) ⌝ }
     // so that a caller can lend the front of `out`
     ensures { λ r. ⌜ (r ≤ length (now (out .exit))) × (r ≡ length (take r (now (out .exit)))) ⌝ }

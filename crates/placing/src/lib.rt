@@ -3,7 +3,6 @@
 mod answers;
 mod next;
 
-use activity::Activity;
 pub use answers::outcome_of;
 pub use next::candidate_at;
 use next::place_next;
@@ -20,7 +19,7 @@ ghost use Rattle.rules.specs.Conditions.{meets};
 ghost use Rattle.activity.specs.View.{headerView};
 ghost use Rattle.plan.specs.View.{planView};
 ghost use Rattle.sets.specs.Table.{Table};
-ghost use Rattle.placing.specs.Places.{Placeable, Candidate, Sized, PlacedTo, AnsweredTo};
+ghost use Rattle.placing.specs.Places.{Placeable, Sized, PlacedTo, AnsweredTo};
 
 // Answers the first k places in order, and answers how many of them are placed: the rows of the tables.
 pub fn place_to(
@@ -69,9 +68,11 @@ pub fn outcome_at(s: &[u8], plan: Plan, k: usize) -> Outcome
     outcome_of(answers[k])
 }
 
-// Fills the table of sets of the candidate at place k, beside those placed at earlier places.
-pub fn fill_at(s: &[u8], plan: Plan, k: usize, candidate: Activity, table: &mut [u16; TICKS])
-    requires { ⌜ Placeable (now s) plan × Candidate (now s) plan k candidate ⌝ }
+// Fills the table of sets of the activity at place k, beside those placed at earlier places, and answers how many starts
+// it has.
+pub fn fill_at(s: &[u8], plan: Plan, k: usize, table: &mut [u16; TICKS]) -> u32
+    requires { ⌜ Placeable (now s) plan × (k < plan .count) ⌝ }
+    ensures { λ r. ⌜ (r ≡ starts (headerView (plan .header)) (activityAt (planView (now (s .entry)) plan) k)) × (r ≤ 4096) ⌝ }
     ensures { λ _. ⌜ Table (meets (headerView (plan .header)) (placed (planView (now (s .entry)) plan) k) (activityAt (planView (now (s .entry)) plan) k)) (starts (headerView (plan .header)) (activityAt (planView (now (s .entry)) plan) k)) (now (table .exit)) ⌝ }
 {
     let mut answers = [0u16; PLACES];
@@ -89,8 +90,9 @@ pub fn fill_at(s: &[u8], plan: Plan, k: usize, candidate: Activity, table: &mut 
         &mut settings,
         &mut units,
     );
-    put_candidate(candidate, n, &mut amounts, &mut settings, &mut units);
     let header = plan.header;
+    let candidate = candidate_at(s, plan, k);
+    put_candidate(candidate, n, &mut amounts, &mut settings, &mut units);
     conditions::fill(
         header,
         candidate,
@@ -101,4 +103,5 @@ pub fn fill_at(s: &[u8], plan: Plan, k: usize, candidate: Activity, table: &mut 
         n,
         table,
     );
+    conditions::start_count(header, candidate)
 }
