@@ -15,6 +15,7 @@ use crate::ids::line_of;
 use crate::order::ordered;
 use activity::Header;
 use charge::out_of_reach;
+use rules::PLACES;
 
 // A refusal, with no plan.
 pub fn refusal(number: u32, line: u32) -> Reading
@@ -36,7 +37,7 @@ pub fn refusal(number: u32, line: u32) -> Reading
     let plan = Plan {
         header,
         count: 0,
-        lines: [0; 64],
+        lines: [0; PLACES],
     };
     Reading { number, line, plan }
 }

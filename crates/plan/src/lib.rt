@@ -21,6 +21,7 @@ use file::read_activities;
 use first_line::read_header;
 use judge::judge;
 use judge::refusal;
+use rules::PLACES;
 use text::field::find;
 use text::word::PLAN;
 
@@ -28,7 +29,7 @@ use text::word::PLAN;
 pub struct Plan {
     pub header: Header,
     pub count: usize,
-    pub lines: [u16; 64],
+    pub lines: [u16; PLACES],
 }
 
 // What a file says: its plan where the number is 0, else the number and the line of its refusal.
