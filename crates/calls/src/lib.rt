@@ -138,7 +138,7 @@ pub fn starts(
     if count <= place {
         return refuse(11, 0);
     }
-    if ALL_CONDITIONS as u32 < set {
+    if (ALL_CONDITIONS as u32) < set {
         return refuse(12, 0);
     }
     runs_at(bytes, plan, place, set as u16, firsts, lasts)

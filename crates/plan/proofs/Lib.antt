@@ -4,7 +4,6 @@ pub mod Lists
 pub mod Fronts
 pub mod Column
 pub mod Ordering
-pub mod Charge
 pub mod Places
 pub mod Cutting
 pub mod Lining

@@ -17,7 +17,7 @@ use Rattle.rules.specs.Fields.{Read, value, fault, Kind, within, rising, items,
 use Rattle.text.specs.Text.{isItem, itemOf, kindOf, pairs, listView}
 use Rattle.text.specs.declared.list.Form.{Form}
 use Rattle.text.specs.declared.list.ListRead.{ListRead}
-use Rattle.plan.specs.View.{windowsView, settingsView}
+use Rattle.activity.specs.View.{windowsView, settingsView}
 use Rattle.plan.specs.Cursor.{unless, windowForm, numberForm, settingForm, itemsOf, windowOf, settingOf, numberOf}
 
 -- each value read goes through f

@@ -14,7 +14,8 @@ use Rattle.rules.specs.Tests.{anyOf, every}
 use Rattle.rules.specs.Plan.{Header, Activity}
 use Rattle.rules.specs.Outcomes.{noActivity}
 use Rattle.rules.specs.Reading.{hasId, misplaced}
-use Rattle.plan.specs.View.{headerView, activitiesIn, PlanSaid, planView}
+use Rattle.activity.specs.View.{headerView}
+use Rattle.plan.specs.View.{activitiesIn, PlanSaid, planView}
 use Rattle.plan.specs.LineAt.{activityIn}
 use Rattle.plan.specs.Collected.{isId, amongIds, idIn, foundAt}
 use Rattle.plan.specs.declared.Plan.{Plan as PlanStruct}

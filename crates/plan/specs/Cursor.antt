@@ -11,8 +11,8 @@ use Rattle.rules.specs.Fields.{Read, fault, _>>=_, numberField, listField, numb
 use Rattle.text.specs.Text.{pairs}
 use Rattle.text.specs.declared.list.Form.{Form}
 use Rattle.text.specs.declared.list.ListRead.{ListRead}
-use Rattle.plan.specs.View.{activityView, Sized}
-use Rattle.plan.specs.declared.Activity.{Activity as ActivityStruct}
+use Rattle.activity.specs.View.{activityView, Sized}
+use Rattle.activity.specs.declared.Activity.{Activity as ActivityStruct}
 
 -- what is read, unless a field before it had a fault
 unfoldable pub unless : {A : Type 0} → ℕ → Read A → Read A

@@ -8,13 +8,14 @@ ghost use Rattle.rules.specs.Plan.{Header as HeaderValue};
 ghost use Rattle.rules.specs.Lines.{splitOn, lines, ended, fields};
 ghost use Rattle.rules.specs.Reading.{activityLines};
 ghost use Rattle.text.specs.Text.{indexOf};
-ghost use Rattle.plan.specs.View.{headerView};
+ghost use Rattle.activity.specs.View.{headerView};
 ghost use Rattle.plan.specs.Collected.{LineIn};
 ghost use Rattle.plan.specs.LinesView.{Collected, isFormed, linesView, linesFrom};
-use crate::Header;
 use crate::activity_line::read_activity;
 use crate::ids::has_id;
 use crate::order::Line;
+use activity::Header;
+use rules::PLACES;
 use text::field::field_at;
 use text::field::field_count;
 use text::field::find;
@@ -26,8 +27,8 @@ pub struct Lines {
     pub number: u32,
     pub line: u32,
     pub count: usize,
-    pub ids: [u16; 64],
-    pub list: [Line; 64],
+    pub ids: [u16; PLACES],
+    pub list: [Line; PLACES],
 }
 
 // Whether the line l, without its LF, begins with this word and has this many fields.
@@ -53,8 +54,8 @@ fn no_lines() -> Lines
         number: 0,
         line: 0,
         count: 0,
-        ids: [0; 64],
-        list: [none; 64],
+        ids: [0; PLACES],
+        list: [none; PLACES],
     }
 }
 
@@ -93,7 +94,7 @@ fn add_line(t: Lines, s: &[u8], at: usize, end: usize, h: Header) -> Lines
         return refuse(t, 2);
     }
     let n = t.count;
-    if 64 <= n {
+    if PLACES <= n {
         return refuse(t, 5);
     }
     let r = read_activity(l, h);

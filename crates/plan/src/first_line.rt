@@ -3,10 +3,10 @@ ghost use mathlib.Core.Path.{_≡_};
 ghost use Rattle.rules.specs.Fields.{value};
 ghost use Rattle.rules.specs.Lines.{splitOn};
 ghost use Rattle.rules.specs.HeaderLine.{headerOf};
-ghost use Rattle.plan.specs.View.{headerView};
+ghost use Rattle.activity.specs.View.{headerView};
 ghost use Rattle.plan.specs.Cursor.{unless};
-use crate::Header;
 use crate::fields::number_field;
+use activity::Header;
 
 // The first line's numbers where the fault is 0.
 pub struct HeaderRead {

@@ -6,6 +6,7 @@ ghost use lib.ListN.{length, take};
 ghost use Rattle.rules.specs.Tests.{anyOf};
 ghost use Rattle.plan.specs.Collected.{isId, atOf, idOf, lineAmong};
 use crate::order::Line;
+use rules::PLACES;
 
 // Whether id is among the first n.
 pub fn has_id(ids: &[u16], n: usize, id: u32) -> bool
@@ -41,17 +42,17 @@ pub fn line_of(ids: &[u16], n: usize, id: u16) -> u32
 
 // Where lines begin, and their ids.
 pub struct Columns {
-    pub lines: [u16; 64],
-    pub ids: [u16; 64],
+    pub lines: [u16; PLACES],
+    pub ids: [u16; PLACES],
 }
 
 // The first n lines, by columns.
-pub fn columns_of(list: [Line; 64], n: usize) -> Columns
+pub fn columns_of(list: [Line; PLACES], n: usize) -> Columns
     requires { ⌜ n ≤ 64 ⌝ }
     ensures { λ r. ⌜ (take n (r .lines) ≡ map atOf (take n list)) × (take n (r .ids) ≡ map idOf (take n list)) × (length (r .lines) ≡ 64) × (length (r .ids) ≡ 64) ⌝ }
 {
-    let mut lines = [0u16; 64];
-    let mut ids = [0u16; 64];
+    let mut lines = [0u16; PLACES];
+    let mut ids = [0u16; PLACES];
     let mut i = 0;
     while i < n {
         let line = list[i];

@@ -2,10 +2,10 @@
 ghost use mathlib.Core.Path.{_≡_};
 ghost use lib.ListN.{length};
 ghost use Rattle.rules.specs.Reading.{afterLines};
-ghost use Rattle.plan.specs.View.{headerView, PlanSaid};
+ghost use Rattle.activity.specs.View.{headerView};
+ghost use Rattle.plan.specs.View.{PlanSaid};
 ghost use Rattle.plan.specs.Reading.{inOrder, readingView};
 ghost use Rattle.plan.specs.LinesView.{Collected, linesView};
-use crate::Header;
 use crate::Plan;
 use crate::Reading;
 use crate::after::first_misplaced;
@@ -13,7 +13,9 @@ use crate::file::Lines;
 use crate::ids::columns_of;
 use crate::ids::line_of;
 use crate::order::ordered;
-use crate::reach::out_of_reach;
+use activity::Header;
+use charge::out_of_reach;
+use rules::PLACES;
 
 // A refusal, with no plan.
 pub fn refusal(number: u32, line: u32) -> Reading
@@ -35,7 +37,7 @@ pub fn refusal(number: u32, line: u32) -> Reading
     let plan = Plan {
         header,
         count: 0,
-        lines: [0; 64],
+        lines: [0; PLACES],
     };
     Reading { number, line, plan }
 }

@@ -4,14 +4,14 @@ ghost use mathlib.Core.List.{map};
 ghost use Prim.Native.Nat.{_≤_};
 ghost use lib.ListN.{length};
 ghost use Rattle.rules.specs.Plan.{Header as HeaderValue};
-ghost use Rattle.plan.specs.View.{headerView, activityView, Sized};
+ghost use Rattle.activity.specs.View.{headerView, activityView, Sized};
 ghost use Rattle.plan.specs.Cursor.{numberOf, itemsOf};
 ghost use Rattle.plan.specs.LineAt.{lineAt, activityIn, LineSays};
-use crate::Activity;
-use crate::Header;
 use crate::activity_line::numbers;
 use crate::activity_line::read_activity;
 use crate::fields::list_field;
+use activity::Activity;
+use activity::Header;
 use text::field::find;
 use text::list::ListRead;
 

@@ -1,7 +1,7 @@
 // A reading, printed: a refusal, or the lines of the plan as its file has them, the activities by place.
 ghost use Rattle.plan.specs.View.{PlanSaid};
-use plan::Activity;
-use plan::Header;
+use activity::Activity;
+use activity::Header;
 use plan::Plan;
 use plan::Reading;
 use plan::line::activity_at;

@@ -9,7 +9,7 @@ use lib.ListN.{take, drop}
 use Rattle.rules.specs.Bytes.{bytes}
 use Rattle.rules.specs.Lines.{lines}
 use Rattle.rules.specs.Reading.{afterLines}
-use Rattle.plan.specs.View.{headerView}
+use Rattle.activity.specs.View.{headerView}
 use Rattle.plan.specs.Reading.{inOrder}
 use Rattle.plan.proofs.Unless.{unless-value, unless-fault}
 use Rattle.plan.proofs.Cutting.{lines-next, lineWith, line-ended, line-fields}

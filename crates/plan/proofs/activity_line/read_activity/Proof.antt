@@ -3,7 +3,7 @@
 use mathlib.Core.Path.{sym, _∙_}
 use borrow.Author.Needs.{needs}
 use Rattle.rules.specs.ActivityLine.{activityOf}
-use Rattle.plan.specs.View.{headerView, activityView}
+use Rattle.activity.specs.View.{headerView, activityView}
 use Rattle.plan.specs.Cursor.{timesThen, listsThen, drawsThen}
 use Rattle.plan.proofs.activity_line.read_activity.Statement.{statement}
 use Rattle.plan.proofs.activity_line.read_activity.Tie as tie

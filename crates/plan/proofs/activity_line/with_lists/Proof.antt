@@ -1,7 +1,7 @@
 -- `activity_line::with_lists` meets its contract.
 -- Assumes nothing.
 use borrow.Author.Needs.{needs}
-use Rattle.plan.specs.View.{activityView}
+use Rattle.activity.specs.View.{activityView}
 use Rattle.plan.proofs.Lists.{windows-front, settings-front}
 use Rattle.plan.proofs.activity_line.with_lists.Statement.{statement}
 use Rattle.plan.proofs.activity_line.with_lists.Tie as tie

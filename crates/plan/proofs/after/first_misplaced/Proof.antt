@@ -9,7 +9,8 @@ use borrow.Author.Tests.{not-true, not-false}
 use lib.ListN.{take, drop, getD}
 use Rattle.rules.specs.Plan.{Header}
 use Rattle.rules.specs.Reading.{misplaced}
-use Rattle.plan.specs.View.{headerView, activitiesIn, planView}
+use Rattle.activity.specs.View.{headerView}
+use Rattle.plan.specs.View.{activitiesIn, planView}
 use Rattle.plan.specs.LineAt.{LineSays}
 use Rattle.plan.specs.Collected.{idIn}
 use Rattle.plan.proofs.Places.{before, place-first, place-on, place-hit, place-end}

@@ -8,7 +8,7 @@ use borrow.Author.Needs.{needs}
 use borrow.Author.Tests.{not-true, not-false}
 use lib.ListN.{take, drop}
 use Rattle.rules.specs.Bytes.{bytes}
-use Rattle.plan.specs.View.{headerView, activityView}
+use Rattle.activity.specs.View.{headerView, activityView}
 use Rattle.plan.specs.LinesView.{activitiesView}
 use Rattle.plan.specs.declared.order.Line.{Line}
 use Rattle.plan.proofs.LineAt.{line-in, line-fields}

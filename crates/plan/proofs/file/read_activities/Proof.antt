@@ -8,7 +8,7 @@ use borrow.Author.Needs.{needs}
 use lib.ListN.{length, take, drop}
 use Rattle.rules.specs.Lines.{lines}
 use Rattle.rules.specs.Reading.{activityLines}
-use Rattle.plan.specs.View.{headerView}
+use Rattle.activity.specs.View.{headerView}
 use Rattle.plan.specs.LinesView.{Collected, linesFrom}
 use Rattle.plan.proofs.Cutting.{lines-end, lines-next, lines-last, not-ended, line-ended, line-fields}
 use Rattle.plan.proofs.Lining.{from-done, from-stopped, from-none, from-refused, line-2, form-not}

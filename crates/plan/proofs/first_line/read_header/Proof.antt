@@ -3,7 +3,7 @@
 use mathlib.Core.Path.{sym, _∙_}
 use borrow.Author.Needs.{needs}
 use Rattle.rules.specs.HeaderLine.{headerOf}
-use Rattle.plan.specs.View.{headerView}
+use Rattle.activity.specs.View.{headerView}
 use Rattle.plan.proofs.Unless.{unless-none, then}
 use Rattle.plan.proofs.first_line.read_header.Statement.{statement}
 use Rattle.plan.proofs.first_line.read_header.Tie as tie

@@ -4,7 +4,8 @@ use mathlib.Core.Path.{sym, ap, _∙_}
 use native.Mathlib.Omega.{arith}
 use borrow.Author.Needs.{needs}
 use lib.ListN.{take}
-use Rattle.plan.specs.View.{headerView, planView}
+use Rattle.activity.specs.View.{headerView}
+use Rattle.plan.specs.View.{planView}
 use Rattle.plan.specs.Reading.{readingView}
 use Rattle.plan.specs.Collected.{lineAmong}
 use Rattle.plan.proofs.Places.{id-at}

@@ -4,7 +4,7 @@ use mathlib.Core.Path.{ap, _∙_}
 use borrow.Author.Needs.{needs}
 use Rattle.rules.specs.Lines.{splitOn}
 use Rattle.rules.specs.ActivityLine.{activityOf}
-use Rattle.plan.specs.View.{headerView}
+use Rattle.activity.specs.View.{headerView}
 use Rattle.plan.proofs.LineAt.{value-read}
 use Rattle.plan.proofs.line.activity_at.Statement.{statement}
 use Rattle.plan.proofs.line.activity_at.Tie as tie
