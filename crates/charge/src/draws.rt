@@ -50,11 +50,12 @@ fn row_draw<'a>(header: Header, ticks: &'a [u16; 256], amounts: &'a [u32; 256], 
     requires { ⌜ i < 64 ⌝ }
     ensures { λ r. ⌜ r ≡ rowDraw header (now (ticks .entry)) (now (amounts .entry)) i ⌝ }
 {
+    let at = i * 4;
     draw_between(
-        ticks[i * 4 + 1],
-        ticks[i * 4 + 2],
-        ticks[i * 4 + 3],
-        amounts[i * 4 + 2],
+        ticks[at + 1],
+        ticks[at + 2],
+        ticks[at + 3],
+        amounts[at + 2],
         header.heater,
     )
 }
