@@ -32,7 +32,7 @@ pub fn own_draw(header: Header, start: u32, duration: u32, draw: u32, warm: u32)
     }
 }
 
-// What an activity draws, by ticks of 16 bits.
+// What an activity draws between these ticks.
 fn draw_between(heat: u16, start: u16, end: u16, draw: u32, heater: u32) -> OwnDraw
     ensures { λ r. ⌜ r ≡ record { heat = heat; start = start; end = end; draw = draw; heater = heater } ⌝ }
 {

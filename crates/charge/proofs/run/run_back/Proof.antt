@@ -1,10 +1,9 @@
 -- `run_back` meets its contract: the charges are run on to t, and c is the one there.
 -- Assumes nothing.
 use native.Mathlib.Omega.{arith}
-use mathlib.Core.Path.{_≡_, sym, ap, _∙_}
+use mathlib.Core.Path.{sym, ap, _∙_}
 use mathlib.Core.Logic.{inl, inr}
-use Prim.Native.Nat.{_+_, _-_, _≤_}
-use lib.ListN.{getD}
+use Prim.Native.Nat.{_-_, _≤_}
 use mir.Syntax.{w64}
 use mir.Val.{toZ}
 use mir.Facts.{toZ-ofZ}
