@@ -46,7 +46,7 @@ keeps-charge-requires c κs =
     let o = c .before .before in
     let a = o .before .before in
     let s = start a in
-    let w = own-within (s .args .header) (a .loop .s) (s .args .duration) (s .args .draw) (s .args .warm) _ (o .own-draw .ensures) in
+    let w = own-within (s .args .header) (a .loop .s) (s .args .duration) _ _ _ (o .own-draw .ensures) in
     ((s .pre .0, a .before .before .fill-charges .ensures, a .loop .inv .1), omega (arith, s .pre .1, w .0, w .1, w .2))
 
 raise-requires : tie.Need-raise-requires Inv-loop μ-loop
