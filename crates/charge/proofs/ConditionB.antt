@@ -51,9 +51,6 @@ entry-draws : (h : Header) (e : Entry) (t : ℕ) → drawOf (entryDraw h e) t �
 unfolding drawOf holds heats
 entry-draws h e t = go (ltb t (e .start)) refl
   where
-    w : ℕ
-    w = warmup h (e .activity) (e .start)
-
     go : (b : Bool) → ltb t (e .start) ≡ b → cond b (cond (leb (e .start - warmup h (e .activity) (e .start)) t) (h .heater) 0) (cond (ltb t (end e)) (e .activity .draw) 0) ≡ cond (leb (e .start) t && ltb t (end e)) (e .activity .draw) 0 + cond (b && leb (e .start) (t + warmup h (e .activity) (e .start))) (h .heater) 0
     go true f = rw (lt-leb (e .start) t (ltb-true _ _ f), heats-from (e .start) t (warmup h (e .activity) (e .start))) (omega arith)
     go false f = rw (le-leb (e .start) t (ltb-false _ _ f)) (omega arith)

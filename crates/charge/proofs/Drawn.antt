@@ -12,11 +12,11 @@ use borrow.Author.Tests.{ltb-true, ltb-false, le-leb, lt-leb, lt-ltb, le-ltb}
 use Rattle.rules.specs.WellFormed.{HeaderFormed}
 use Rattle.activity.specs.View.{headerView}
 use Rattle.activity.specs.declared.Header.{Header as HeaderStruct}
-use Rattle.placed.specs.Bounds.{AmountsBounded}
+use Rattle.placed.specs.Bounds.{TicksBounded, AmountsBounded}
 use Rattle.placed.specs.Raised.{Raised}
 use Rattle.placed.proofs.Raising.{cond-most}
 use Rattle.charge.specs.declared.draws.OwnDraw.{OwnDraw}
-use Rattle.charge.specs.Charge.{rowDraw, drawOf, drawnIn, drawMore, drawWith, keptBy, Drawing}
+use Rattle.charge.specs.Charge.{ownDraw, rowDraw, drawOf, drawnIn, drawMore, drawWith, keptBy, keptAt, Drawing}
 
 -- raised by the heater's draw, then by its own
 pub raised-own : (o : OwnDraw) (old mid new : List ℕ) → Raised (o .heat) (o .start) (o .heater) old mid → Raised (o .start) (o .end) (o .draw) mid new → (t : ℕ) → getD new t 0 ≡ drawOf o t + getD old t 0
@@ -47,6 +47,15 @@ module _ (draw : ℕ → ℕ) (o : OwnDraw) (t : ℕ) where
   unfolding drawOf drawWith
   draws-after h l = rw (le-ltb t (o .start) (omega arith), le-ltb t (o .end) l) (omega arith)
 
+-- an activity at a start: its ticks, and the test with it added
+module _ (h : HeaderStruct) (s duration own warm : ℕ) (o : OwnDraw) (e : o ≡ ownDraw h s duration own warm) where
+  pub own-within : (o .heat ≤ o .start) × (o .start ≤ o .end) × (o .end ≡ s + duration)
+  own-within = rw e (omega arith, omega arith, refl)
+
+  pub own-kept : (draw : ℕ → ℕ) → keptBy h (drawWith draw o) ≡ keptAt h draw duration own warm s
+  unfolding keptAt
+  own-kept draw = ap (λ (o : OwnDraw). keptBy h (drawWith draw o)) e
+
 -- nothing more is drawn
 pub draws-alone : (draw : ℕ → ℕ) (t : ℕ) → drawMore draw 0 t ≡ draw t
 unfolding drawMore
@@ -58,9 +67,14 @@ module _ (h : HeaderStruct) (ticks amounts : List ℕ) where
   unfolding drawnIn
   drawn-none t = refl
 
-  pub drawn-more : (n t : ℕ) → drawnIn h ticks amounts (n + 1) t ≡ drawOf (rowDraw h ticks amounts n) t + drawnIn h ticks amounts n t
+  -- one row's draw added to those of the first n
+  pub drawn-more : (n : ℕ) (o : OwnDraw) (old new : List ℕ) → o ≡ rowDraw h ticks amounts n → ((t : ℕ) → getD new t 0 ≡ drawOf o t + getD old t 0) → ((t : ℕ) → getD old t 0 ≡ drawnIn h ticks amounts n t) → (t : ℕ) → getD new t 0 ≡ drawnIn h ticks amounts (n + 1) t
   unfolding drawnIn
-  drawn-more n t = rw add-one
+  drawn-more n o old new e f g t = rw add-one (omega (arith, f t, g t, ap (λ (o : OwnDraw). drawOf o t) e))
+
+  -- what bounds give of a row
+  pub row-within : (n i : ℕ) (o : OwnDraw) → o ≡ rowDraw h ticks amounts i → TicksBounded ticks n → AmountsBounded amounts n → i < n → (o .heat ≤ o .start) × (o .start ≤ o .end) × (o .end ≤ 4096) × (o .draw ≤ 1000000) × (o .heater ≡ h .heater)
+  row-within n i o e b c l = rw e (b .heats i l, b .starts i l, b .ends i l, c .draw i l, refl)
 
   draw-most : (o : OwnDraw) (t : ℕ) → o .draw ≤ 1000000 → o .heater ≤ 1000000 → drawOf o t ≤ 1000000
   unfolding drawOf

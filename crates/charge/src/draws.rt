@@ -32,7 +32,7 @@ pub fn own_draw(header: Header, start: u32, duration: u32, draw: u32, warm: u32)
     }
 }
 
-// What an activity draws, by ticks of 16 bits.
+// What an activity draws between these ticks.
 fn draw_between(heat: u16, start: u16, end: u16, draw: u32, heater: u32) -> OwnDraw
     ensures { λ r. ⌜ r ≡ record { heat = heat; start = start; end = end; draw = draw; heater = heater } ⌝ }
 {
@@ -50,11 +50,12 @@ fn row_draw<'a>(header: Header, ticks: &'a [u16; 256], amounts: &'a [u32; 256], 
     requires { ⌜ i < 64 ⌝ }
     ensures { λ r. ⌜ r ≡ rowDraw header (now (ticks .entry)) (now (amounts .entry)) i ⌝ }
 {
+    let at = i * 4;
     draw_between(
-        ticks[i * 4 + 1],
-        ticks[i * 4 + 2],
-        ticks[i * 4 + 3],
-        amounts[i * 4 + 2],
+        ticks[at + 1],
+        ticks[at + 2],
+        ticks[at + 3],
+        amounts[at + 2],
         header.heater,
     )
 }

@@ -1,4 +1,4 @@
-// Condition B: the charge with the candidate added is at least the floor at each tick, and at least the handover charge at the horizon.
+// Condition B: with the candidate added, the charge is at least the floor at each tick and at least the handover charge at the horizon.
 mod draws;
 mod run;
 mod trial;
@@ -65,7 +65,7 @@ pub fn last_charge<'a>(
     last as u64
 }
 
-// Whether the charge at the horizon with nothing placed is under the handover charge.
+// Refusal 9: whether the charge at the horizon with nothing placed is under the handover charge.
 pub fn out_of_reach(header: Header) -> bool
     ensures { λ r. ⌜ r ≡ outOfReach (headerView header) ⌝ }
 {

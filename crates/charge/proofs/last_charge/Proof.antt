@@ -16,12 +16,11 @@ use Rattle.activity.specs.View.{headerView}
 use Rattle.charge.specs.Charge.{drawnIn, chargeBy}
 use Rattle.charge.proofs.Drawn.{drawing}
 use Rattle.charge.proofs.Trying.{last-kept}
-use borrow.Author.Needs.{needs}
 use Rattle.charge.proofs.last_charge.Statement.{statement}
 use Rattle.charge.proofs.last_charge.Tie as tie
 
 slice-aggregate-add-placed : tie.Need-slice-aggregate-add-placed
-slice-aggregate-add-placed c = search needs
+slice-aggregate-add-placed c = omega arith
 
 add-placed-requires : tie.Need-add-placed-requires
 unfolding headerView
@@ -30,10 +29,10 @@ add-placed-requires c κs =
     ((p .0 .0, p .0 .1, p .1 .0 .heater), (refl, zeros 4096))
 
 slice-aggregate-fill-charges : tie.Need-slice-aggregate-fill-charges
-slice-aggregate-fill-charges c = search needs
+slice-aggregate-fill-charges c = omega arith
 
 slice-aggregate-fill-charges-2 : tie.Need-slice-aggregate-fill-charges-2
-slice-aggregate-fill-charges-2 c = search needs
+slice-aggregate-fill-charges-2 c = omega arith
 
 fill-charges-requires : tie.Need-fill-charges-requires
 fill-charges-requires c κs =
@@ -42,10 +41,10 @@ fill-charges-requires c κs =
     (drawing _ _ _ (a .add-placed .ensures) (a .add-placed .kept .1 .1 .1 .1 .0) (p .1 .0) (p .1 .1), refl)
 
 cast-horizon : tie.Need-cast-horizon
-cast-horizon c = search needs
+cast-horizon c = omega arith
 
 mul-last : tie.Need-mul-last
-mul-last c = search needs
+mul-last c = omega arith
 
 -- the horizon is one of the ticks
 array-copy-out-last : tie.Need-array-copy-out-last

@@ -8,12 +8,11 @@ use Rattle.placed.specs.Tables.{drawAt}
 use Rattle.sets.proofs.Marking.{same-marked}
 use Rattle.charge.specs.Charge.{keptAt}
 use Rattle.charge.proofs.Drawn.{drawing, amounts-fewer}
-use borrow.Author.Needs.{needs}
 use Rattle.charge.proofs.mark_charge.Statement.{statement}
 use Rattle.charge.proofs.mark_charge.Tie as tie
 
 slice-aggregate-add-placed : tie.Need-slice-aggregate-add-placed
-slice-aggregate-add-placed c = search needs
+slice-aggregate-add-placed c = omega arith
 
 add-placed-requires : tie.Need-add-placed-requires
 unfolding headerView
@@ -22,19 +21,19 @@ add-placed-requires c κs =
     ((p .0 .1, amounts-fewer _ _ _ (omega arith) (p .0 .2), p .1 .0 .0 .heater), (refl, zeros 4096))
 
 mul-draw : tie.Need-mul-draw
-mul-draw c = search needs
+mul-draw c = omega arith
 
 add-draw : tie.Need-add-draw
-add-draw c = search needs
+add-draw c = omega arith
 
 mul-draw-2 : tie.Need-mul-draw-2
-mul-draw-2 c = search needs
+mul-draw-2 c = omega arith
 
 element-copy-out-draw : tie.Need-element-copy-out-draw
-element-copy-out-draw c = search needs
+element-copy-out-draw c = omega arith
 
 slice-aggregate-mark-trials : tie.Need-slice-aggregate-mark-trials
-slice-aggregate-mark-trials c = search needs
+slice-aggregate-mark-trials c = omega arith
 
 mark-trials-requires : tie.Need-mark-trials-requires
 mark-trials-requires c κs =
@@ -43,7 +42,7 @@ mark-trials-requires c κs =
     (drawing _ _ _ (a .add-placed .ensures) (a .add-placed .kept .1 .1 .1 .1 .0) (p .1 .0 .0) (p .1 .0 .1), p .1 .1 .0, p .1 .1 .1)
 
 same-length : tie.Need-same-length
-same-length c = search needs
+same-length c = omega arith
 
 returns : tie.Need-returns
 returns c =

@@ -1,6 +1,5 @@
 -- `out_of_reach` meets its contract: c is the charge at tick t with nothing drawn, between 0 and 32 bits.
 -- Assumes nothing.
-use borrow.Author.Needs.{needs}
 use native.Mathlib.Omega.{arith}
 use Prim.Native.Nat.{_-_, _≤_}
 use mathlib.Core.Path.{_≡_, sym, ap, _∙_}
@@ -25,12 +24,12 @@ abbrev μ-loop : tie.MeasureT-loop
 μ-loop header c₀ t₀ t-end c t = header .horizon - t
 
 cast-c : tie.Need-cast-c Inv-loop μ-loop
-cast-c c = search needs
+cast-c c = omega arith
 
 loop-holds : tie.Need-loop-holds Inv-loop μ-loop
 loop-holds c =
     let h = c .before .args .header in
-    let e : toZ w64 (h .first) ≡ pos (h .first) = toZ-pos w64 (search needs) in
+    let e : toZ w64 (h .first) ≡ pos (h .first) = toZ-pos w64 (omega arith) in
     (omega arith, e ∙ charge-first h _, rw e (omega signed), rw e (omega signed))
 
 step-requires : tie.Need-step-requires Inv-loop μ-loop
@@ -56,7 +55,7 @@ loop-again c =
     )
 
 cast-result : tie.Need-cast-result Inv-loop μ-loop
-cast-result c = search needs
+cast-result c = omega arith
 
 returns : tie.Need-returns Inv-loop μ-loop
 returns c =
@@ -64,7 +63,7 @@ returns c =
     let h = a .before .before .args .header in
     let e : a .loop .t ≡ h .horizon = omega arith in
     let l : toZ w64 (a .loop .c) ≡ chargeBy h (λ _. 0) (h .horizon) = rw e at (a .loop .inv .1) in
-    (λ i. ltZ (l i) (toZ-pos w64 {n = h .handover} (search needs) i)) ∙ sym (reach-is h)
+    (λ i. ltZ (l i) (toZ-pos w64 {n = h .handover} (omega arith) i)) ∙ sym (reach-is h)
 
 pub out-of-reach-spec : {M : Type 1} → statement M
 out-of-reach-spec =

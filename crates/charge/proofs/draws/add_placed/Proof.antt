@@ -1,12 +1,11 @@
 -- `add_placed` meets its contract: the draws of the first i rows are summed.
 -- Assumes nothing.
-use Prim.Native.Nat.{ℕ, _-_, _<_, _≤_}
-use mathlib.Core.Path.{_≡_, sym, ap, _∙_}
+use Prim.Native.Nat.{ℕ, _-_, _≤_}
+use mathlib.Core.Path.{_≡_, sym, _∙_}
 use native.Mathlib.Omega.{arith}
 use lib.ListN.{length, getD}
-use Rattle.charge.specs.declared.draws.OwnDraw.{OwnDraw}
-use Rattle.charge.specs.Charge.{drawOf, drawnIn}
-use Rattle.charge.proofs.Drawn.{drawn-none, drawn-more, drawn-few}
+use Rattle.charge.specs.Charge.{drawnIn}
+use Rattle.charge.proofs.Drawn.{drawn-none, drawn-more, drawn-few, row-within}
 use Rattle.charge.proofs.draws.add_placed.Statement.{statement}
 use Rattle.charge.proofs.draws.add_placed.Tie as tie
 
@@ -27,19 +26,12 @@ row-draw-requires c κs = omega (arith, c .before .before .before .before .pre .
 
 add-draw-requires : tie.Need-add-draw-requires Inv-loop μ-loop
 add-draw-requires c κs =
-    let e = c .row-draw .ensures in
     let a = c .before .before .before in
     let s = a .before .before .args in
     let p = a .before .before .pre .0 in
-    let i = a .loop .i in
-    let l : i < s .n = omega arith in
-    let heat = ap (λ (o : OwnDraw). o .heat) e in
-    let start = ap (λ (o : OwnDraw). o .start) e in
-    let end = ap (λ (o : OwnDraw). o .end) e in
-    let draw = ap (λ (o : OwnDraw). o .draw) e in
-    let heater = ap (λ (o : OwnDraw). o .heater) e in (
-      omega (arith, a .loop .inv .1, p .0 .heats i l, p .0 .starts i l, p .0 .ends i l),
-      λ t. omega (arith, a .loop .inv .2 t, drawn-few (s .header) (s .ticks .now) (s .amounts .now) _ i (p .1) (p .2) (omega arith) t, p .0 .few, p .1 .draw i l),
+    let w = row-within (s .header) (s .ticks .now) (s .amounts .now) (s .n) (a .loop .i) _ (c .row-draw .ensures) (p .0) (p .1) (omega arith) in (
+      omega (arith, a .loop .inv .1, w .0, w .1, w .2),
+      λ t. omega (arith, a .loop .inv .2 t, drawn-few (s .header) (s .ticks .now) (s .amounts .now) _ (a .loop .i) (p .1) (p .2) (omega arith) t, p .0 .few, w .3, w .4),
     )
 
 add-i : tie.Need-add-i Inv-loop μ-loop
@@ -51,13 +43,9 @@ loop-less c = omega arith
 loop-again : tie.Need-loop-again Inv-loop μ-loop
 loop-again c =
     let d = c .before .before in
-    let r = d .before in
-    let a = r .before .before .before in
-    let s = a .before .before .args in (
-      omega arith,
-      d .add-draw .kept .0 ∙ a .loop .inv .1,
-      λ t. omega (arith, d .add-draw .ensures t, a .loop .inv .2 t, ap (λ (o : OwnDraw). drawOf o t) (r .row-draw .ensures), drawn-more (s .header) (s .ticks .now) (s .amounts .now) (a .loop .i) t),
-    )
+    let a = d .before .before .before .before in
+    let s = a .before .before .args in
+    (omega arith, d .add-draw .kept .0 ∙ a .loop .inv .1, drawn-more (s .header) (s .ticks .now) (s .amounts .now) (a .loop .i) _ (a .loop .draws) (d .add-draw .last .0) (d .before .row-draw .ensures) (d .add-draw .ensures) (a .loop .inv .2))
 
 same-length : tie.Need-same-length Inv-loop μ-loop
 same-length c = c .before .loop .inv .1 ∙ sym (c .before .before .before .pre .1 .0)

@@ -1,6 +1,5 @@
 -- `fill_charges` meets its contract: the placed keep the floor, so the charge is run on to the horizon.
 -- Assumes nothing.
-use borrow.Author.Needs.{needs}
 use native.Mathlib.Omega.{arith}
 use mathlib.Core.Path.{_≡_, _∙_}
 use lib.IntN.{pos}
@@ -17,18 +16,18 @@ use Rattle.charge.proofs.run.fill_charges.Statement.{statement}
 use Rattle.charge.proofs.run.fill_charges.Tie as tie
 
 cast-horizon : tie.Need-cast-horizon
-cast-horizon c = search needs
+cast-horizon c = omega arith
 
 cast-charge : tie.Need-cast-charge
-cast-charge c = search needs
+cast-charge c = omega arith
 
 slice-set-from-charge : tie.Need-slice-set-from-charge
-slice-set-from-charge c = search needs
+slice-set-from-charge c = omega arith
 
 -- the first charge is stored
 first-is : (s : tie.Start) → getD (set (s .args .charge .now) 0 (toZ w64 (s .args .header .first))) 0 (pos 0) ≡ pos (s .args .header .first)
 first-is s =
-    getD-set-same (s .args .charge .now) 0 (toZ w64 (s .args .header .first)) (pos 0) (omega (arith, s .pre .1)) ∙ toZ-pos w64 {n = s .args .header .first} (search needs)
+    getD-set-same (s .args .charge .now) 0 (toZ w64 (s .args .header .first)) (pos 0) (omega (arith, s .pre .1)) ∙ toZ-pos w64 {n = s .args .header .first} (omega arith)
 
 run-ticks-requires : tie.Need-run-ticks-requires
 run-ticks-requires c κs =

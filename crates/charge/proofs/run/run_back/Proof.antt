@@ -1,11 +1,9 @@
 -- `run_back` meets its contract: the charges are run on to t, and c is the one there.
 -- Assumes nothing.
-use borrow.Author.Needs.{needs}
 use native.Mathlib.Omega.{arith}
-use mathlib.Core.Path.{_≡_, sym, ap, _∙_}
+use mathlib.Core.Path.{sym, ap, _∙_}
 use mathlib.Core.Logic.{inl, inr}
-use Prim.Native.Nat.{_+_, _-_, _≤_}
-use lib.ListN.{getD}
+use Prim.Native.Nat.{_-_, _≤_}
 use mir.Syntax.{w64}
 use mir.Val.{toZ}
 use mir.Facts.{toZ-ofZ}
@@ -22,10 +20,10 @@ abbrev μ-ticks : tie.MeasureT-ticks
 μ-ticks draws header base from charge₀ horizon floor t₀ c₀ charge t c = header .horizon - t
 
 cast-horizon : tie.Need-cast-horizon Inv-ticks μ-ticks
-cast-horizon c = search needs
+cast-horizon c = omega arith
 
 cast-floor : tie.Need-cast-floor Inv-ticks μ-ticks
-cast-floor c = search needs
+cast-floor c = omega arith
 
 mul-c : tie.Need-mul-c Inv-ticks μ-ticks
 mul-c c = omega arith
@@ -36,7 +34,7 @@ slice-copy-out-c c = omega arith
 ticks-holds : tie.Need-ticks-holds Inv-ticks μ-ticks
 ticks-holds c =
     let s = c .before .before .before .before in
-    (s .pre .0 .0, tick-first _ _ _ _ (search needs) (c .c .given) (s .pre .1))
+    (s .pre .0 .0, tick-first _ _ _ _ (omega arith) (c .c .given) (s .pre .1))
 
 mul-b : tie.Need-mul-b Inv-ticks μ-ticks
 mul-b c = omega arith

@@ -1,6 +1,5 @@
 -- `run_ticks` meets its contract: the charges are run on to t, and c is the one there.
 -- Assumes nothing.
-use borrow.Author.Needs.{needs}
 use native.Mathlib.Omega.{arith}
 use mathlib.Core.Path.{sym, ap, _∙_}
 use Prim.Native.Nat.{_+_, _-_, _≤_}
@@ -19,7 +18,7 @@ abbrev μ-ticks : tie.MeasureT-ticks
 μ-ticks draws header by from to charge₀ floor more t₀ c₀ charge t c = to - t
 
 cast-floor : tie.Need-cast-floor Inv-ticks μ-ticks
-cast-floor c = search needs
+cast-floor c = omega arith
 
 mul-c : tie.Need-mul-c Inv-ticks μ-ticks
 mul-c c = omega arith
@@ -30,7 +29,7 @@ slice-copy-out-c c = omega arith
 ticks-holds : tie.Need-ticks-holds Inv-ticks μ-ticks
 ticks-holds c =
     let s = c .before .before .before in
-    (s .pre .0 .0, tick-first _ _ _ _ (search needs) (c .c .given) (s .pre .1))
+    (s .pre .0 .0, tick-first _ _ _ _ (omega arith) (c .c .given) (s .pre .1))
 
 -- left at the first tick under the floor
 same-length-2 : tie.Need-same-length-2 Inv-ticks μ-ticks

@@ -1,6 +1,5 @@
 -- `step` meets its contract: the sum and the difference fit, and the branch is the smaller of the two.
 -- Assumes nothing.
-use borrow.Author.Needs.{needs}
 use native.Mathlib.Omega.{arith}
 use mathlib.Core.Path.{_≡_, sym, _∙_}
 use lib.IntN.{pos, _+ℤ_, _-ℤ_}
@@ -15,7 +14,7 @@ use Rattle.charge.proofs.run.step.Statement.{statement}
 use Rattle.charge.proofs.run.step.Tie as tie
 
 cast-next : tie.Need-cast-next
-cast-next c = search needs
+cast-next c = omega arith
 
 -- the sum and the difference fit
 sum-fits : (c : tie.Start) → SFits w64 (c .args .c +ℤ pos (c .args .rate))
@@ -33,13 +32,13 @@ add-next : tie.Need-add-next
 add-next c = simp (toZ-ofZ (c .fits .c), toZ-pos w64 {n = c .args .rate} (omega arith)) (sum-fits c)
 
 cast-next-2 : tie.Need-cast-next-2
-cast-next-2 c = search needs
+cast-next-2 c = omega arith
 
 sub-next : tie.Need-sub-next
 sub-next c = simp (toZ-ofZ (c .fits .c), toZ-pos w64 {n = c .args .rate} (omega arith), toZ-pos w64 {n = c .args .draw} (omega arith), toZ-ofZ (sum-fits c)) (next-fits c)
 
 cast-top : tie.Need-cast-top
-cast-top c = search needs
+cast-top c = omega arith
 
 -- what the machine compares is the two numbers
 compared : (c : tie.Start) → leZ (toZ w64 (c .args .capacity)) (toZ w64 (ofZ w64 (toZ w64 (ofZ w64 (toZ w64 (ofZ w64 (c .args .c)) +ℤ toZ w64 (c .args .rate))) -ℤ toZ w64 (c .args .draw)))) ≡ leZ (pos (c .args .capacity)) (c .args .c +ℤ pos (c .args .rate) -ℤ pos (c .args .draw))

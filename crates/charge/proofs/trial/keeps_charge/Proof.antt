@@ -1,6 +1,5 @@
 -- `keeps_charge` meets its contract: the trial's charges are those with the activity added, from where it begins to draw to the tick reached.
 -- Assumes nothing.
-use borrow.Author.Needs.{needs}
 use native.Mathlib.Omega.{arith}
 use native.Mathlib.Nat.{eq-or-lt-of-le}
 use Prim.Native.Nat.{ℕ, _≤_, _<_, _^_}
@@ -32,22 +31,22 @@ abbrev all : tie.Start → ℕ → ℕ
 all s = drawWith (atTick (s .args .draws .now)) (s .args .own)
 
 floor-small : (s : tie.Start) → s .args .header .floor < 2 ^ 63
-floor-small s = search needs
+floor-small s = omega arith
 
 handover-small : (s : tie.Start) → s .args .header .handover < 2 ^ 63
-handover-small s = search needs
+handover-small s = omega arith
 
 mul-trial : tie.Need-mul-trial
-mul-trial c = search needs
+mul-trial c = omega arith
 
 shared-slice-copy-out-trial : tie.Need-shared-slice-copy-out-trial
-shared-slice-copy-out-trial c = search needs
+shared-slice-copy-out-trial c = omega arith
 
 mul-last : tie.Need-mul-last
-mul-last c = search needs
+mul-last c = omega arith
 
 slice-set-from-last : tie.Need-slice-set-from-last
-slice-set-from-last c = search needs
+slice-set-from-last c = omega arith
 
 -- the trial where it begins
 abbrev begun-list : tie.Start → List ℤ
@@ -116,16 +115,16 @@ abbrev z : tie.After-run-back → ℤ
 z c = getD (c .run-back .last .1 .1 .1 .1 .0) (c .run-back .result) (pos 0)
 
 mul-last-2 : tie.Need-mul-last-2
-mul-last-2 c = search needs
+mul-last-2 c = omega arith
 
 slice-copy-out-last : tie.Need-slice-copy-out-last
 slice-copy-out-last c = omega (arith, back-size (c .before), late (c .before), start (c .before) .pre .0 .0 .short, start (c .before) .pre .0 .2)
 
 mul-b : tie.Need-mul-b
-mul-b c = search needs
+mul-b c = omega arith
 
 shared-slice-copy-out-b : tie.Need-shared-slice-copy-out-b
-shared-slice-copy-out-b c = search needs
+shared-slice-copy-out-b c = omega arith
 
 same-length-2 : tie.Need-same-length-2
 same-length-2 c = back-size (c .before .before .before .before)
@@ -140,10 +139,10 @@ returns-2 c =
     (λ t k. draws-after _ _ t (s .pre .1 .1) (omega (arith, r .run-back .ensures .0 .1 .began))))
 
 cast-if3 : tie.Need-cast-if3
-cast-if3 c = search needs
+cast-if3 c = omega arith
 
 cast-result : tie.Need-cast-result
-cast-result c = search needs
+cast-result c = omega arith
 
 same-length-3 : tie.Need-same-length-3
 same-length-3 c = back-size (c .before .before .before .before .before .before .before)

@@ -1,13 +1,13 @@
 -- `mark_trials` meets its contract: the starts below s are marked.
 -- Assumes nothing.
 use native.Mathlib.Omega.{arith}
-use Prim.Native.Nat.{_+_, _-_, _≤_}
-use mathlib.Core.Path.{_≡_, refl, sym, ap, _∙_}
+use Prim.Native.Nat.{_-_, _≤_}
+use mathlib.Core.Path.{_≡_, refl, sym, _∙_}
 use lib.ListN.{length}
 use Rattle.sets.specs.Table.{Marked}
 use Rattle.sets.proofs.Marking.{none-marked, marked-more, markable-at}
-use Rattle.charge.specs.declared.draws.OwnDraw.{OwnDraw}
-use Rattle.charge.specs.Charge.{atTick, drawWith, keptBy, keptAt}
+use Rattle.charge.specs.Charge.{atTick, keptAt}
+use Rattle.charge.proofs.Drawn.{own-within, own-kept}
 use Rattle.charge.proofs.trial.mark_trials.Statement.{statement}
 use Rattle.charge.proofs.trial.mark_trials.Tie as tie
 
@@ -46,11 +46,8 @@ keeps-charge-requires c κs =
     let o = c .before .before in
     let a = o .before .before in
     let s = start a in
-    let e = o .own-draw .ensures in
-    let heat = ap (λ (o : OwnDraw). o .heat) e in
-    let begin = ap (λ (o : OwnDraw). o .start) e in
-    let end = ap (λ (o : OwnDraw). o .end) e in
-    ((s .pre .0, a .before .before .fill-charges .ensures, a .loop .inv .1), omega (arith, s .pre .1))
+    let w = own-within (s .args .header) (a .loop .s) (s .args .duration) _ _ _ (o .own-draw .ensures) in
+    ((s .pre .0, a .before .before .fill-charges .ensures, a .loop .inv .1), omega (arith, s .pre .1, w .0, w .1, w .2))
 
 raise-requires : tie.Need-raise-requires Inv-loop μ-loop
 raise-requires c κs =
@@ -64,7 +61,6 @@ loop-less : tie.Need-loop-less Inv-loop μ-loop
 loop-less c = omega arith
 
 loop-again : tie.Need-loop-again Inv-loop μ-loop
-unfolding keptAt
 loop-again c =
     let k = c .before .before .before .before .before in
     let o = k .before .before .before in
@@ -73,7 +69,7 @@ loop-again c =
       omega arith,
       k .keeps-charge .kept .1 .1 .1 .1 .0 ∙ a .loop .inv .1,
       marked-more _ _ _ _ _ _ _ (omega (arith, s .pre .2 .long)) (a .loop .inv .2) (c .before .before .raise .ensures)
-          (k .keeps-charge .ensures ∙ ap (λ (o : OwnDraw). keptBy (s .args .header) (drawWith (atTick (s .args .draws .now)) o)) (o .own-draw .ensures)),
+          (k .keeps-charge .ensures ∙ own-kept _ _ _ _ _ _ (o .own-draw .ensures) _),
     )
 
 same-length : tie.Need-same-length Inv-loop μ-loop
