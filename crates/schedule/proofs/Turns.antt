@@ -7,17 +7,13 @@ use native.Mathlib.Omega.{arith}
 use Rattle.rules.specs.Conditions.{conditionCount, allConditions, has}
 use Rattle.rules.proofs.Sets.{to-kept, all-of-them}
 
-pub record Ahead (c m : ℕ) : Type 0 where
-  pub small : m ≤ allConditions
-  pub ahead : (b : ℕ) → c ≤ b → b < conditionCount → has m b ≡ true
+-- the set m has every condition from c on
+abbrev pub Ahead : ℕ → ℕ → Type 0
+Ahead c m = (b : ℕ) → c ≤ b → b < conditionCount → has m b ≡ true
 
 pub ahead-all : Ahead 0 allConditions
-ahead-all = record { small = omega arith; ahead = λ b _ h. all-of-them b h }
+ahead-all b l k = all-of-them b k
 
 pub ahead-next : (c m : ℕ) (t : Bool) → c < conditionCount → Ahead c m → Ahead (suc c) (cond t m (m - 2 ^ c))
-ahead-next c m true h A = record { small = A .small; ahead = λ b l. A .ahead b (omega arith) }
-ahead-next c m false h A =
-    record {
-      small = omega (arith, A .small);
-      ahead = λ b l k. to-kept m c b (A .ahead c (omega arith) h) (A .ahead b (omega arith) k) (omega arith);
-    }
+ahead-next c m true h A b l k = A b (omega arith) k
+ahead-next c m false h A b l k = to-kept m c b (A c (omega arith) h) (A b (omega arith) k) (omega arith)

@@ -25,7 +25,7 @@ loop-holds c = (omega arith, refl, ahead-all)
 keep-or-drop-requires : tie.Need-keep-or-drop-requires Inv-loop μ-loop
 keep-or-drop-requires c κs =
     let inv = c .before .loop .inv in
-    (omega arith, omega arith, power-in _ _ (inv .2 .ahead (c .before .loop .c) (omega arith) (omega arith)))
+    (omega arith, omega arith, power-in _ _ (inv .2 (c .before .loop .c) (omega arith) (omega arith)))
 
 add-c : tie.Need-add-c Inv-loop μ-loop
 add-c c = omega arith
