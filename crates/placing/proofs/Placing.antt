@@ -129,8 +129,8 @@ module _ {s : List ℕ} {p : PlanStruct} {k n : ℕ} {a : ActivityStruct} {ticks
   table-is T = rw (← A .view) T
 
 -- one answer more
-pub answered-next : {s : List ℕ} {p : PlanStruct} {k x : ℕ} {o : Outcome} {answers : List ℕ} → k < 64 → AnsweredTo s p k answers → answerIn x ≡ o → o ≡ outcome (planView s p) k → AnsweredTo s p (k + 1) (set answers k x)
-answered-next {s} {p} {k} {x} {o} {answers} h A e f =
+pub answered-next : {s : List ℕ} {p : PlanStruct} {k : ℕ} {o : Outcome} {answers : List ℕ} (x : ℕ) → k < 64 → AnsweredTo s p k answers → answerIn x ≡ o → o ≡ outcome (planView s p) k → AnsweredTo s p (k + 1) (set answers k x)
+answered-next {s} {p} {k} {o} {answers} x h A e f =
     record {
       size = length-set answers k x ∙ A .size;
       at =

@@ -31,10 +31,10 @@ pub record Candidate (s : List ℕ) (p : PlanStruct) (k : ℕ) (a : ActivityStru
 
 -- the lengths of the tables
 pub record Sized (ticks amounts settings units : List ℕ) : Type 0 where
-  pub ticks : length ticks ≡ 256
-  pub amounts : length amounts ≡ 256
-  pub settings : length settings ≡ 1024
-  pub units : length units ≡ 2048
+  pub ticksLong : length ticks ≡ 256
+  pub amountsLong : length amounts ≡ 256
+  pub settingsLong : length settings ≡ 1024
+  pub unitsLong : length units ≡ 2048
 
 -- the first n rows of the tables are what is placed at the first k places
 pub record PlacedTo (s : List ℕ) (p : PlanStruct) (k n : ℕ) (ticks amounts settings units : List ℕ) : Type 0 where
