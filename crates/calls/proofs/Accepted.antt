@@ -2,11 +2,10 @@
 -- Assumes nothing.
 use Prim.Native.Nat.{ℕ, _<_}
 use mathlib.Core.Path.{_≡_, refl, sym, _∙_, ap}
-use mathlib.Core.List.{List, map}
+use mathlib.Core.List.{List}
 use native.Mathlib.Omega.{arith}
 use borrow.Author.Tests.{eq-eqb, ne-eqb}
-use lib.ListN.{length, getD, take, List·getD-map, length-map}
-use lib.Seq.{getD-take, length-take-le}
+use lib.ListN.{length}
 use Rattle.rules.specs.Plan.{Plan}
 use Rattle.rules.specs.Order.{order}
 use Rattle.rules.specs.OrderRight.{nthActivity}
@@ -17,24 +16,25 @@ use Rattle.rules.proofs.Accepted.{accepted-formed}
 use Rattle.rules.proofs.ListAt.{at-mem}
 use Rattle.rules.proofs.Order.{order-right, order-length}
 use Rattle.rules.proofs.Ordered.{ordered, order-again}
-use Rattle.plan.specs.View.{PlanSized, noStruct, headerView, activityView, planView}
+use Rattle.plan.specs.View.{PlanSaid, headerView, planView}
 use Rattle.plan.specs.Reading.{inOrder, readingView}
 use Rattle.plan.specs.declared.Plan.{Plan as PlanStruct}
 use Rattle.plan.specs.declared.Reading.{Reading as ReadingStruct}
+use Rattle.plan.proofs.Places.{place-is, place-count}
 use Rattle.calls.specs.Read.{AcceptedAs, ReadAs}
 
--- the file is accepted as a plan that the struct holds in order
+-- the file is accepted as a plan whose lines the struct holds in order
 record Held (s : List ℕ) (q : PlanStruct) : Type 0 where
   plan : Plan
   read : reading s ≡ accepted plan
-  view : planView q ≡ ordered plan
+  view : planView s q ≡ ordered plan
 
 refused-go : (k n : ℕ) (x : Reading) → no k n ≡ inOrder x → x ≡ no k n
 unfolding inOrder
 refused-go k n (accepted p) e = let z : _≡_ {A = ℕ} 0 1 = cc in absurd (omega arith)
 refused-go k n (refused r) e = sym e
 
-held-go : (q : PlanStruct) (s : List ℕ) (x : Reading) → reading s ≡ x → accepted (planView q) ≡ inOrder x → Held s q
+held-go : (q : PlanStruct) (s : List ℕ) (x : Reading) → reading s ≡ x → accepted (planView s q) ≡ inOrder x → Held s q
 unfolding inOrder
 held-go q s (accepted p) e f = record { plan = p; read = e; view = cc }
 held-go q s (refused r) e f = let z : _≡_ {A = ℕ} 0 1 = cc in absurd (omega arith)
@@ -46,14 +46,13 @@ each-formed p F k h =
     rw (O .same k h) (F .each _ (at-mem noActivity (p .activities) (O .line k) (O .known k h)))
 
 -- such a plan can be placed
-held-placeable : (s : List ℕ) (q : PlanStruct) → Held s q → PlanSized q → AcceptedAs s q
-unfolding planView activityView
+held-placeable : (s : List ℕ) (q : PlanStruct) → Held s q → PlanSaid s q → AcceptedAs s q
+unfolding planView
 held-placeable s q A S =
     let F : WellFormed (A .plan) × Reachable (A .plan) = accepted-formed s (A .plan) (A .read) in
     let head : headerView (q .header) ≡ A .plan .header = ap (λ (p : Plan). p .header) (A .view) in
-    let acts : map activityView (take (q .count) (q .activities)) ≡ order (A .plan .activities) = ap (λ (p : Plan). p .activities) (A .view) in
-    let count : length (order (A .plan .activities)) ≡ q .count = ap length (sym acts) ∙ length-map (take (q .count) (q .activities)) activityView ∙ length-take-le (q .count) (q .activities) (omega (arith, S .few, S .long)) in
-    let same : (k : ℕ) → k < q .count → nthActivity (order (A .plan .activities)) k ≡ activityView (getD (q .activities) k noStruct) = λ k h. ap (λ ys. nthActivity ys k) (sym acts) ∙ List·getD-map activityView (take (q .count) (q .activities)) k noStruct ∙ ap activityView (getD-take (q .count) (q .activities) k noStruct h) in
+    let acts : planView s q .activities ≡ order (A .plan .activities) = ap (λ (p : Plan). p .activities) (A .view) in
+    let count : length (order (A .plan .activities)) ≡ q .count = ap length (sym acts) ∙ place-count s q S in
     record {
       plan = A .plan;
       read = A .read;
@@ -61,17 +60,15 @@ held-placeable s q A S =
       count = sym (order-length (A .plan .activities)) ∙ count;
       placeable =
           record {
-            few = S .few;
-            long = S .long;
-            sizes = S .sizes;
+            said = S;
             header = rw head (F .0 .header);
-            each = λ k h. rw (head, ← same k h) (each-formed (A .plan) (F .0) k (rw count h));
+            each = λ k h. rw (← place-is s q S k h, acts, head) (each-formed (A .plan) (F .0) k (rw count h));
             ordered = rw acts (order-again (A .plan .activities));
             reachable = rw head (F .1);
           };
     }
 
-pub read-as : (r : ReadingStruct) (s : List ℕ) → readingView r ≡ inOrder (reading s) → PlanSized (r .plan) → ReadAs s r
+pub read-as : (r : ReadingStruct) (s : List ℕ) → readingView s r ≡ inOrder (reading s) → PlanSaid s (r .plan) → ReadAs s r
 unfolding readingView
 read-as r s e S =
     record {

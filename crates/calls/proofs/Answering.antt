@@ -38,15 +38,15 @@ module _ (s : List ℕ) (q : PlanStruct) (A : AcceptedAs s q) where
   unfolding outcomeCall outcomeOf
   outcome-beyond place h = rw (A .read, A .count, le-leb _ _ h)
 
-  pub outcome-answered : (place : ℕ) → place < q .count → outcomeCall s place ≡ full (outcomeValues (outcome (planView q) place))
+  pub outcome-answered : (place : ℕ) → place < q .count → outcomeCall s place ≡ full (outcomeValues (outcome (planView s q) place))
   unfolding outcomeCall outcomeOf
   outcome-answered place h = rw (A .read, A .count, lt-leb _ _ h, A .view, same-outcome (A .plan) place)
 
-  pub report-answered : (room : ℕ) → reportCall s room ≡ filling room (report (planView q))
+  pub report-answered : (room : ℕ) → reportCall s room ≡ filling room (report (planView s q))
   unfolding reportCall reportOf
   report-answered room = rw (A .read, A .view, same-report (A .plan))
 
-  pub output-answered : output s ≡ report (planView q)
+  pub output-answered : output s ≡ report (planView s q)
   unfolding output answerTo
   output-answered = rw (A .read, A .view, same-report (A .plan))
 
@@ -58,6 +58,6 @@ module _ (s : List ℕ) (q : PlanStruct) (A : AcceptedAs s q) where
   unfolding startsCall startsOf
   starts-no-set place m room h l = rw (A .read, A .count, lt-leb _ _ h, lt-ltb _ _ l)
 
-  pub starts-answered : (place m room : ℕ) → place < q .count → m ≤ allConditions → startsCall s place m room ≡ filling room (runs (planView q) place m)
+  pub starts-answered : (place m room : ℕ) → place < q .count → m ≤ allConditions → startsCall s place m room ≡ filling room (runs (planView s q) place m)
   unfolding startsCall startsOf
   starts-answered place m room h l = rw (A .read, A .count, lt-leb _ _ h, le-ltb _ _ l, A .view, same-runs (A .plan) place m)

@@ -1,4 +1,4 @@
--- What a plan's bytes are read as: refused, or accepted as a plan that the code holds by place and can go through.
+-- What a plan's bytes are read as: refused, or accepted as a plan whose lines the code holds by place and can go through.
 use Prim.Native.Nat.{ℕ}
 use mathlib.Core.Path.{_≡_}
 use mathlib.Core.Logic.{_≢_}
@@ -16,9 +16,9 @@ use Rattle.schedule.specs.Places.{Placeable}
 pub record AcceptedAs (s : List ℕ) (q : PlanStruct) : Type 0 where
   pub plan : Plan
   pub read : reading s ≡ accepted plan
-  pub view : planView q ≡ ordered plan
+  pub view : planView s q ≡ ordered plan
   pub count : length (plan .activities) ≡ q .count
-  pub placeable : Placeable q
+  pub placeable : Placeable s q
 
 -- what the struct r says of the bytes s
 pub record ReadAs (s : List ℕ) (r : ReadingStruct) : Type 0 where

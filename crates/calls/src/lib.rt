@@ -48,7 +48,7 @@ pub fn outcome(bytes: &[u8], place: usize) -> OutcomeAnswer
             line: 0,
         });
     }
-    OutcomeAnswer::Answer(schedule::placing::outcome_at(plan, place))
+    OutcomeAnswer::Answer(schedule::placing::outcome_at(bytes, plan, place))
 }
 
 // Copies a text to the front of a slice and answers its length; a slice too short for it remains.
@@ -71,7 +71,7 @@ pub fn report(bytes: &[u8], out: &mut [u8]) -> CountAnswer
         return refuse(reading.number, reading.line);
     }
     let mut written = [0u8; 4608];
-    let length = report::whole::put_report(reading.plan, &mut written);
+    let length = report::whole::put_report(bytes, reading.plan, &mut written);
     hand_over(&written[..length], out)
 }
 
@@ -99,14 +99,21 @@ fn write_runs(
 }
 
 // Writes the runs of starts at a place that meet a set of conditions, and answers their count.
-fn runs_at(plan: Plan, place: usize, set: u32, firsts: &mut [u32], lasts: &mut [u32]) -> CountAnswer
-    requires { ⌜ Placeable plan × (place < plan .count) ⌝ }
-    ensures { λ r. ⌜ ColumnsFilled (filling (min (length (now (firsts .entry))) (length (now (lasts .entry)))) (runs (planView plan) place set)) (now (firsts .entry)) (now (lasts .entry)) r (now (firsts .exit)) (now (lasts .exit)) ⌝ }
+fn runs_at(
+    bytes: &[u8],
+    plan: Plan,
+    place: usize,
+    set: u32,
+    firsts: &mut [u32],
+    lasts: &mut [u32],
+) -> CountAnswer
+    requires { ⌜ Placeable (now bytes) plan × (place < plan .count) ⌝ }
+    ensures { λ r. ⌜ ColumnsFilled (filling (min (length (now (firsts .entry))) (length (now (lasts .entry)))) (runs (planView (now (bytes .entry)) plan) place set)) (now (firsts .entry)) (now (lasts .entry)) r (now (firsts .exit)) (now (lasts .exit)) ⌝ }
 {
-    let table = schedule::placing::table_at(plan, place);
-    let activity = plan.activities[place];
     let header = plan.header;
-    let count = conditions::start_count(header, activity);
+    let candidate = schedule::placing::candidate_at(bytes, plan, place);
+    let table = schedule::placing::table_at(bytes, plan, place, candidate);
+    let count = conditions::start_count(header, candidate);
     write_runs(&table, count, set, firsts, lasts)
 }
 
@@ -133,7 +140,7 @@ pub fn starts(
     if 511 < set {
         return refuse(12, 0);
     }
-    runs_at(plan, place, set, firsts, lasts)
+    runs_at(bytes, plan, place, set, firsts, lasts)
 }
 
 // What the program prints, the report or the `no` line, written to the front of `out`; answers its length.
@@ -146,5 +153,5 @@ pub fn output(bytes: &[u8], out: &mut [u8; 4608]) -> usize
     if reading.number != 0 {
         return report::line::put_no(out, 0, reading.number as u64, reading.line as u64);
     }
-    report::whole::put_report(reading.plan, out)
+    report::whole::put_report(bytes, reading.plan, out)
 }

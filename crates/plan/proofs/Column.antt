@@ -8,11 +8,10 @@ use native.Mathlib.Numerals.{add-one}
 use lib.Dec.{eqb}
 use lib.ListN.{length, take, drop, getD}
 use borrow.Author.Tests.{eq-eqb, ne-eqb}
+use Rattle.rules.specs.Plan.{Activity}
 use Rattle.rules.specs.Tests.{anyOf}
 use Rattle.rules.specs.Reading.{hasId, lineNumber}
-use Rattle.plan.specs.View.{activityView}
-use Rattle.plan.specs.Collected.{isId, idOf, lineAmong}
-use Rattle.plan.specs.declared.Activity.{Activity as ActivityStruct}
+use Rattle.plan.specs.Collected.{isId, lineAmong}
 use Rattle.plan.proofs.Fronts.{front-cons, front-end}
 
 module _ (ids : List ℕ) (n : ℕ) (h : n ≤ length ids) (id : ℕ) where
@@ -41,12 +40,12 @@ module _ (ids : List ℕ) (n : ℕ) (h : n ≤ length ids) (id : ℕ) where
   line-end i line k = rw (front-end ids n h i k)
 
 -- the rules' tests of activities are those of their ids
-pub has-ids : (id : ℕ) (xs : List ActivityStruct) → hasId id (map activityView xs) ≡ anyOf (isId id) (map idOf xs)
-unfolding hasId anyOf isId activityView
-has-ids id [] = refl
-has-ids id (x ∷ xs) = ap (λ b. eqb (x .id) id || b) (has-ids id xs)
+pub has-ids : {A : Type 0} (view : A → Activity) (id : ℕ) (xs : List A) → hasId id (map view xs) ≡ anyOf (isId id) (map (λ x. view x .id) xs)
+unfolding hasId anyOf isId
+has-ids view id [] = refl
+has-ids view id (x ∷ xs) = ap (λ b. eqb (view x .id) id || b) (has-ids view id xs)
 
-pub line-ids : (id n : ℕ) (xs : List ActivityStruct) → lineNumber id n (map activityView xs) ≡ lineAmong id n (map idOf xs)
-unfolding lineNumber lineAmong activityView
-line-ids id n [] = refl
-line-ids id n (x ∷ xs) = ap (λ l. cond (eqb (x .id) id) n l) (line-ids id (suc n) xs)
+pub line-ids : {A : Type 0} (view : A → Activity) (id n : ℕ) (xs : List A) → lineNumber id n (map view xs) ≡ lineAmong id n (map (λ x. view x .id) xs)
+unfolding lineNumber lineAmong
+line-ids view id n [] = refl
+line-ids view id n (x ∷ xs) = ap (λ l. cond (eqb (view x .id) id) n l) (line-ids view id (suc n) xs)

@@ -3,7 +3,7 @@
 use Prim.Native.Nat.{ℕ, _+_, _≤_, _<_}
 use mathlib.Core.Path.{_≡_, refl, ap, _∙_}
 use mathlib.Core.Bool.{true, false}
-use mathlib.Core.List.{List, [], _∷_, map}
+use mathlib.Core.List.{List, [], _∷_, map, map-map}
 use native.Mathlib.Omega.{arith}
 use lib.ListN.{length, getD, take}
 use borrow.Author.Tests.{lt-ltb, le-ltb, eq-eqb, ne-eqb}
@@ -15,54 +15,66 @@ use Rattle.rules.specs.Order.{order}
 use Rattle.rules.specs.HeaderLine.{headerOf}
 use Rattle.rules.specs.Reading.{accepted, no, formed, onLine, misplaced, outOfReach, judged, afterLines, planLines, activityLines, reading}
 use Rattle.text.specs.Text.{indexOf}
-use Rattle.plan.specs.View.{activityView, noStruct, PlanSized}
+use Rattle.plan.specs.View.{activitiesIn, PlanSaid}
+use Rattle.plan.specs.LineAt.{activityIn, LineSays}
 use Rattle.plan.specs.Reading.{inOrder, readingView}
-use Rattle.plan.specs.Collected.{orderStruct, lineAmong, foundAt}
+use Rattle.plan.specs.Collected.{lineAmong, idIn, atOf, idOf, saidBy, LinesIn, orderLines, foundAt}
 use Rattle.plan.specs.LinesView.{Collected, activitiesView, linesView}
-use Rattle.plan.specs.declared.Activity.{Activity as ActivityStruct}
 use Rattle.plan.specs.declared.Reading.{Reading as ReadingStruct}
 use Rattle.plan.specs.declared.file.Lines.{Lines}
+use Rattle.plan.specs.declared.order.Line.{Line}
 use Rattle.plan.proofs.Column.{line-ids}
-use Rattle.plan.proofs.Ordering.{view-order}
+use Rattle.plan.proofs.Ordering.{order-in, view-order, ids-said, says-at}
 use Rattle.plan.proofs.Cutting.{lines-last, not-ended}
 use Rattle.plan.proofs.Lining.{form-not}
 
 -- what a refusal's struct says
-pub view-refused : (r : ReadingStruct) (number line : ℕ) → (number ≡ 0 → ⊥) → r .number ≡ number → r .line ≡ line → readingView r ≡ no number line
+pub view-refused : (s : List ℕ) (r : ReadingStruct) (number line : ℕ) → (number ≡ 0 → ⊥) → r .number ≡ number → r .line ≡ line → readingView s r ≡ no number line
 unfolding readingView
-view-refused r number line x e f = rw (e, ne-eqb _ _ x, f)
+view-refused s r number line x e f = rw (e, ne-eqb _ _ x, f)
 
-pub none-sized : (r : ReadingStruct) → r .plan .count ≡ 0 → length (r .plan .activities) ≡ 64 → PlanSized (r .plan)
-none-sized r e n = record { few = omega arith; long = n; sizes = λ k h. absurd (omega arith) }
+pub none-said : (s : List ℕ) (r : ReadingStruct) → r .plan .count ≡ 0 → length (r .plan .lines) ≡ 64 → PlanSaid s (r .plan)
+none-said s r e n = record { few = omega arith; long = n; says = λ k h. absurd (omega arith) }
 
--- the lines t, read behind the header h
-module _ (h : Header) (t : Lines) where
-  pub judge-stopped : (t .number ≡ 0 → ⊥) → inOrder (afterLines (linesView h t)) ≡ no (t .number) (t .line)
+-- the lines t of s, read behind the header h
+module _ (h : Header) (s : List ℕ) (t : Lines) where
+  pub judge-stopped : (t .number ≡ 0 → ⊥) → inOrder (afterLines (linesView h s t)) ≡ no (t .number) (t .line)
   unfolding inOrder afterLines linesView
   judge-stopped x = rw (ne-eqb _ _ x)
 
-  module _ (z : t .number ≡ 0) (list : List ActivityStruct) (e : take (t .count) list ≡ orderStruct (take (t .count) (t .activities))) (p : ℕ) (m : misplaced [] (map activityView (take (t .count) list)) ≡ foundAt list (t .count) p) where
-    by-place : map activityView (take (t .count) list) ≡ order (activitiesView t)
-    by-place = rw e (view-order (take (t .count) (t .activities)))
+  -- the places' lines and ids, out of the lines in order
+  module _ (g : Collected h s t) (list : List Line) (o : take (t .count) list ≡ orderLines (take (t .count) (t .list))) where
+    pub in-order : LinesIn h s (take (t .count) list)
+    in-order = rw o (order-in h s (take (t .count) (t .list)) (g .said))
 
-    plan : Plan
-    plan = record { header = h; activities = activitiesView t }
+    pub place-ids : (lines ids : List ℕ) → take (t .count) lines ≡ map atOf (take (t .count) list) → take (t .count) ids ≡ map idOf (take (t .count) list) → take (t .count) ids ≡ map (idIn h s) (take (t .count) lines)
+    place-ids lines ids e f = f ∙ ids-said h s (take (t .count) list) in-order ∙ rw (e, map-map (idIn h s) atOf (take (t .count) list))
 
-    lines-read : inOrder (afterLines (linesView h t)) ≡ inOrder (judged plan (foundAt list (t .count) p))
-    unfolding afterLines linesView plan
-    lines-read = rw (eq-eqb _ _ z, ← by-place, m)
+    pub all-say : (lines : List ℕ) → length lines ≡ 64 → take (t .count) lines ≡ map atOf (take (t .count) list) → (k : ℕ) → k < t .count → LineSays h s (getD lines k 0)
+    all-say lines n e k l = says-at h s (take (t .count) list) lines (t .count) k in-order e l (omega (arith, g .small))
 
-    pub judge-7 : Collected t → p < t .count → inOrder (afterLines (linesView h t)) ≡ no 7 (lineAmong (getD list p noStruct .id) 2 (take (t .count) (t .ids)))
-    unfolding inOrder judged foundAt plan activityView
-    judge-7 g k = lines-read ∙ rw (lt-ltb _ _ k, g .their-ids) (ap (no 7) (line-ids (getD list p noStruct .id) 2 (take (t .count) (t .activities))))
+    module _ (z : t .number ≡ 0) (lines : List ℕ) (e : take (t .count) lines ≡ map atOf (take (t .count) list)) (p : ℕ) (m : misplaced [] (activitiesIn h s (take (t .count) lines)) ≡ foundAt h s lines (t .count) p) where
+      by-place : activitiesIn h s (take (t .count) lines) ≡ order (activitiesView h s t)
+      by-place = rw (e, map-map (activityIn h s) atOf (take (t .count) list), o) (view-order h s (take (t .count) (t .list)) (g .said))
 
-    pub judge-9 : t .count ≤ p → outOfReach h ≡ true → inOrder (afterLines (linesView h t)) ≡ no 9 0
-    unfolding inOrder judged foundAt plan
-    judge-9 k f = lines-read ∙ rw (le-ltb _ _ k, f)
+      plan : Plan
+      plan = record { header = h; activities = activitiesView h s t }
 
-    pub judge-accepted : t .count ≤ p → outOfReach h ≡ false → inOrder (afterLines (linesView h t)) ≡ accepted (record { header = h; activities = map activityView (take (t .count) list) })
-    unfolding inOrder judged foundAt plan
-    judge-accepted k f = lines-read ∙ rw (le-ltb _ _ k, f, by-place)
+      lines-read : inOrder (afterLines (linesView h s t)) ≡ inOrder (judged plan (foundAt h s lines (t .count) p))
+      unfolding afterLines linesView plan
+      lines-read = rw (eq-eqb _ _ z, ← by-place, m)
+
+      pub judge-7 : p < t .count → inOrder (afterLines (linesView h s t)) ≡ no 7 (lineAmong (idIn h s (getD lines p 0)) 2 (take (t .count) (t .ids)))
+      unfolding inOrder judged foundAt plan
+      judge-7 k = lines-read ∙ rw (lt-ltb _ _ k, g .their-ids, ids-said h s (take (t .count) (t .list)) (g .said)) (ap (no 7) (line-ids (saidBy h s) (idIn h s (getD lines p 0)) 2 (take (t .count) (t .list))))
+
+      pub judge-9 : t .count ≤ p → outOfReach h ≡ true → inOrder (afterLines (linesView h s t)) ≡ no 9 0
+      unfolding inOrder judged foundAt plan
+      judge-9 k f = lines-read ∙ rw (le-ltb _ _ k, f)
+
+      pub judge-accepted : t .count ≤ p → outOfReach h ≡ false → inOrder (afterLines (linesView h s t)) ≡ accepted (record { header = h; activities = activitiesIn h s (take (t .count) lines) })
+      unfolding inOrder judged foundAt plan
+      judge-accepted k f = lines-read ∙ rw (le-ltb _ _ k, f, by-place)
 
 -- no line, and a first line that is not formed
 empty : planLines (lines []) ≡ no 2 1

@@ -1,4 +1,5 @@
 pub mod Unless
+pub mod LineAt
 pub mod Lists
 pub mod Fronts
 pub mod Column

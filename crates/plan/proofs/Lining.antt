@@ -15,13 +15,13 @@ use Rattle.rules.specs.Fields.{value, fault}
 use Rattle.rules.specs.Plan.{Header, Activity}
 use Rattle.rules.specs.ActivityLine.{activityOf}
 use Rattle.rules.specs.Reading.{no, formed, onLine, hasId, activityLines}
-use Rattle.plan.specs.View.{activityView}
-use Rattle.plan.specs.Collected.{isId}
+use Rattle.plan.specs.Collected.{isId, saidBy}
 use Rattle.plan.specs.LinesView.{isFormed, Collected, activitiesView, linesView, linesFrom}
-use Rattle.plan.specs.declared.Activity.{Activity as ActivityStruct}
 use Rattle.plan.specs.declared.file.Lines.{Lines}
+use Rattle.plan.specs.declared.order.Line.{Line}
 use Rattle.plan.proofs.Fronts.{map-append}
 use Rattle.plan.proofs.Column.{has-ids}
+use Rattle.plan.proofs.Ordering.{ids-said}
 
 -- a line's form, by its fields
 pub form-is : (word : List ℕ) (count : ℕ) (line l : List ℕ) → ended line ≡ true → fields line ≡ splitOn 9 l → formed word count line ≡ isFormed word count l
@@ -53,38 +53,38 @@ module _ (h : Header) (earlier : List Activity) (n : ℕ) (line : List ℕ) (res
         unfolding activityLines onLine
         line-on g = rw (e, lt-leb _ _ k, f, g)
 
-pub counted : (t : Lines) → Collected t → length (activitiesView t) ≡ t .count
-counted t g =
-    let m : t .count ≤ length (t .activities) = omega (arith, g .small, g .long) in
-    length-map (take (t .count) (t .activities)) activityView ∙ length-take-le (t .count) (t .activities) m
+pub counted : (h : Header) (s : List ℕ) (t : Lines) → Collected h s t → length (activitiesView h s t) ≡ t .count
+counted h s t g =
+    let m : t .count ≤ length (t .list) = omega (arith, g .small, g .long) in
+    length-map (take (t .count) (t .list)) (saidBy h s) ∙ length-take-le (t .count) (t .list) m
 
 -- the code's next state, where the line is refused and where it is an activity
-module _ (h : Header) (t r : Lines) (line : List ℕ) (rest : List (List ℕ)) (z : t .number ≡ 0) where
-  pub from-refused : (k : ℕ) → (k ≡ 0 → ⊥) → r .number ≡ k → r .line ≡ t .count + 2 → activityLines h (activitiesView t) (t .count + 2) (line ∷ rest) ≡ no k (t .count + 2) → linesFrom h t (line ∷ rest) ≡ linesFrom h r rest
+module _ (h : Header) (s : List ℕ) (t r : Lines) (line : List ℕ) (rest : List (List ℕ)) (z : t .number ≡ 0) where
+  pub from-refused : (k : ℕ) → (k ≡ 0 → ⊥) → r .number ≡ k → r .line ≡ t .count + 2 → activityLines h (activitiesView h s t) (t .count + 2) (line ∷ rest) ≡ no k (t .count + 2) → linesFrom h s t (line ∷ rest) ≡ linesFrom h s r rest
   unfolding linesFrom
   from-refused k x e f g = rw (eq-eqb _ _ z, e, ne-eqb _ _ x, f) g
 
-  pub from-pushed : (v : Activity) → r .number ≡ t .number → r .count ≡ t .count + 1 → activitiesView r ≡ activitiesView t ++ (v ∷ []) → activityLines h (activitiesView t) (t .count + 2) (line ∷ rest) ≡ activityLines h (activitiesView t ++ (v ∷ [])) (suc (t .count + 2)) rest → linesFrom h t (line ∷ rest) ≡ linesFrom h r rest
+  pub from-pushed : (v : Activity) → r .number ≡ t .number → r .count ≡ t .count + 1 → activitiesView h s r ≡ activitiesView h s t ++ (v ∷ []) → activityLines h (activitiesView h s t) (t .count + 2) (line ∷ rest) ≡ activityLines h (activitiesView h s t ++ (v ∷ [])) (suc (t .count + 2)) rest → linesFrom h s t (line ∷ rest) ≡ linesFrom h s r rest
   unfolding linesFrom
   from-pushed v e f g q =
       let n : suc (t .count + 2) ≡ r .count + 2 = omega arith in
       rw (eq-eqb _ _ z, eq-eqb _ _ (e ∙ z)) (q ∙ rw (n, g))
 
-pub pushed-view : (t r : Lines) (a : ActivityStruct) → take (r .count) (r .activities) ≡ take (t .count) (t .activities) ++ (a ∷ []) → activitiesView r ≡ activitiesView t ++ (activityView a ∷ [])
-pushed-view t r a e = rw e (map-append activityView (take (t .count) (t .activities)) (a ∷ []))
+pub pushed-view : (h : Header) (s : List ℕ) (t r : Lines) (m : Line) → take (r .count) (r .list) ≡ take (t .count) (t .list) ++ (m ∷ []) → activitiesView h s r ≡ activitiesView h s t ++ (saidBy h s m ∷ [])
+pushed-view h s t r m e = rw e (map-append (saidBy h s) (take (t .count) (t .list)) (m ∷ []))
 
 -- no more lines, and those refused
-pub from-done : (h : Header) (t : Lines) → linesFrom h t [] ≡ linesView h t
+pub from-done : (h : Header) (s : List ℕ) (t : Lines) → linesFrom h s t [] ≡ linesView h s t
 unfolding linesFrom linesView activityLines
-from-done h t = refl
+from-done h s t = refl
 
-pub from-stopped : (h : Header) (t : Lines) (rest : List (List ℕ)) → (t .number ≡ 0 → ⊥) → linesFrom h t rest ≡ linesView h t
+pub from-stopped : (h : Header) (s : List ℕ) (t : Lines) (rest : List (List ℕ)) → (t .number ≡ 0 → ⊥) → linesFrom h s t rest ≡ linesView h s t
 unfolding linesFrom linesView
-from-stopped h t rest x = rw (ne-eqb _ _ x)
+from-stopped h s t rest x = rw (ne-eqb _ _ x)
 
-pub from-none : (h : Header) (t : Lines) (rest : List (List ℕ)) → t .number ≡ 0 → t .count ≡ 0 → linesFrom h t rest ≡ activityLines h [] 2 rest
+pub from-none : (h : Header) (s : List ℕ) (t : Lines) (rest : List (List ℕ)) → t .number ≡ 0 → t .count ≡ 0 → linesFrom h s t rest ≡ activityLines h [] 2 rest
 unfolding linesFrom
-from-none h t rest z n = rw (eq-eqb _ _ z, n)
+from-none h s t rest z n = rw (eq-eqb _ _ z, n)
 
 -- a line that lacks its LF
 pub form-not : (word : List ℕ) (count : ℕ) (line : List ℕ) → ended line ≡ false → formed word count line ≡ false
@@ -92,5 +92,5 @@ unfolding formed
 form-not word count line e = rw e
 
 -- the id of an earlier line
-pub has-collected : (t : Lines) → Collected t → (id : ℕ) → hasId id (activitiesView t) ≡ anyOf (isId id) (take (t .count) (t .ids))
-has-collected t g id = rw (g .their-ids) (has-ids id (take (t .count) (t .activities)))
+pub has-collected : (h : Header) (s : List ℕ) (t : Lines) → Collected h s t → (id : ℕ) → hasId id (activitiesView h s t) ≡ anyOf (isId id) (take (t .count) (t .ids))
+has-collected h s t g id = rw (g .their-ids, ids-said h s (take (t .count) (t .list)) (g .said)) (has-ids (saidBy h s) id (take (t .count) (t .list)))

@@ -1,4 +1,4 @@
--- Laws of `after`: the ids of earlier places, and the least place that is misplaced.
+-- Laws of places: what their lines say, the ids of earlier places, and the least place that is misplaced.
 -- Assumes nothing.
 use Prim.Native.Nat.{ℕ, zero, suc, _+_, _≤_, _<_}
 use mathlib.Core.Path.{_≡_, refl, sym, ap, _∙_}
@@ -7,15 +7,17 @@ use mathlib.Core.List.{List, [], _∷_, _++_, map}
 use native.Mathlib.Numerals.{add-one}
 use native.Mathlib.Omega.{arith}
 use lib.Dec.{eqb}
-use lib.ListN.{length, take, drop, getD}
+use lib.ListN.{length, take, drop, getD, length-map}
 use lib.Seq.{take-suc, getD-take, length-take-le}
 use borrow.Author.Tests.{lt-ltb, le-ltb}
 use Rattle.rules.specs.Tests.{anyOf, every}
-use Rattle.rules.specs.Plan.{Activity}
+use Rattle.rules.specs.Plan.{Header, Activity}
+use Rattle.rules.specs.Outcomes.{noActivity}
 use Rattle.rules.specs.Reading.{hasId, misplaced}
-use Rattle.plan.specs.View.{activityView, noStruct}
-use Rattle.plan.specs.Collected.{isId, idOf, amongIds, foundAt}
-use Rattle.plan.specs.declared.Activity.{Activity as ActivityStruct}
+use Rattle.plan.specs.View.{headerView, activitiesIn, PlanSaid, planView}
+use Rattle.plan.specs.LineAt.{activityIn}
+use Rattle.plan.specs.Collected.{isId, amongIds, idIn, foundAt}
+use Rattle.plan.specs.declared.Plan.{Plan as PlanStruct}
 use Rattle.plan.proofs.Fronts.{front-cons, front-end}
 
 -- each of the first n from i on
@@ -48,46 +50,56 @@ any-last p (y ∷ xs) x = rw (any-last p xs x) (turn (p y) (p x) (anyOf p xs))
     turn false true c = refl
     turn false false c = refl
 
--- what the places before i hold, the latest first
-unfoldable pub before : List ActivityStruct → ℕ → List Activity
-before list zero = []
-before list (suc i) = activityView (getD list i noStruct) ∷ before list i
+-- an element of the first n, through f
+map-at : {B : Type 0} (f : ℕ → B) (d : B) (xs : List ℕ) (n k : ℕ) → k < n → n ≤ length xs → getD (map f (take n xs)) k d ≡ f (getD xs k 0)
+map-at f d [] n k h l = absurd (omega arith)
+map-at f d (x ∷ xs) zero k h l = absurd (omega arith)
+map-at f d (x ∷ xs) (suc n) zero h l = refl
+map-at f d (x ∷ xs) (suc n) (suc k) h l = map-at f d xs n k (omega arith) (omega arith)
 
-map-at : (f : ActivityStruct → ℕ) (xs : List ActivityStruct) (i : ℕ) → i < length xs → getD (map f xs) i 0 ≡ f (getD xs i noStruct)
-map-at f [] i h = absurd (omega arith)
-map-at f (x ∷ xs) zero h = refl
-map-at f (x ∷ xs) (suc i) h = map-at f xs i (omega arith)
+-- for callers: the activity at a place of a plan is what the place's line says
+pub place-is : (s : List ℕ) (p : PlanStruct) → PlanSaid s p → (k : ℕ) → k < p .count → getD (planView s p .activities) k noActivity ≡ activityIn (headerView (p .header)) s (getD (p .lines) k 0)
+unfolding planView
+place-is s p g k h = map-at (activityIn (headerView (p .header)) s) noActivity (p .lines) (p .count) k h (omega (arith, g .few, g .long))
 
-module _ (list : List ActivityStruct) (ids : List ℕ) (n : ℕ) (h : n ≤ length list) (k : n ≤ length ids) (e : take n ids ≡ map idOf (take n list)) where
-  id-at : (i : ℕ) → i < n → getD ids i 0 ≡ getD list i noStruct .id
-  id-at i l =
-      sym (getD-take n ids i 0 l) ∙ ap (λ q. getD q i 0) e
-      ∙ map-at idOf (take n list) i (rw (length-take-le n list h) l)
-      ∙ ap idOf (getD-take n list i noStruct l)
+pub place-count : (s : List ℕ) (p : PlanStruct) → PlanSaid s p → length (planView s p .activities) ≡ p .count
+unfolding planView
+place-count s p g = length-map (take (p .count) (p .lines)) (activityIn (headerView (p .header)) s) ∙ length-take-le (p .count) (p .lines) (omega (arith, g .few, g .long))
 
-  among-before : (i : ℕ) → i ≤ n → (id : ℕ) → hasId id (before list i) ≡ amongIds (take i ids) id
-  unfolding hasId anyOf amongIds before activityView isId
-  among-before zero l id = refl
-  among-before (suc i) l id =
-      let m : i < length ids = omega arith in
-      rw (take-suc ids i 0 m, any-last, id-at i (omega arith)) (ap (λ b. eqb (getD list i noStruct .id) id || b) (among-before i (omega arith) id))
+-- the places whose lines begin at these bytes of s
+module _ (h : Header) (s lines : List ℕ) where
+  -- what the places before i hold, the latest first
+  unfoldable pub before : ℕ → List Activity
+  before zero = []
+  before (suc i) = activityIn h s (getD lines i 0) ∷ before i
 
-  -- the test of place i
-  tests : (i : ℕ) → i ≤ n → (xs : List ℕ) → every (λ id. hasId id (before list i)) xs ≡ every (amongIds (take i ids)) xs
-  tests i l xs = every-same (λ id. hasId id (before list i)) (amongIds (take i ids)) (among-before i l) xs
+  module _ (ids : List ℕ) (n : ℕ) (l : n ≤ length lines) (k : n ≤ length ids) (e : take n ids ≡ map (idIn h s) (take n lines)) where
+    pub id-at : (i : ℕ) → i < n → getD ids i 0 ≡ idIn h s (getD lines i 0)
+    id-at i m = sym (getD-take n ids i 0 m) ∙ ap (λ q. getD q i 0) e ∙ map-at (idIn h s) 0 lines n i m l
 
-  pub place-on : (i : ℕ) → i < n → every (amongIds (take i ids)) (activityView (getD list i noStruct) .after) ≡ true → misplaced (before list i) (map activityView (drop i (take n list))) ≡ misplaced (before list (i + 1)) (map activityView (drop (i + 1) (take n list)))
-  unfolding misplaced before
-  place-on i l f = rw (front-cons list n h i noStruct l, tests i (omega arith) (activityView (getD list i noStruct) .after), f, add-one)
+    among-before : (i : ℕ) → i ≤ n → (id : ℕ) → hasId id (before i) ≡ amongIds (take i ids) id
+    unfolding hasId anyOf amongIds before isId
+    among-before zero m id = refl
+    among-before (suc i) m id =
+        let b : i < length ids = omega arith in
+        rw (take-suc ids i 0 b, any-last, id-at i (omega arith)) (ap (λ q. eqb (idIn h s (getD lines i 0)) id || q) (among-before i (omega arith) id))
 
-  pub place-hit : (i : ℕ) → i < n → every (amongIds (take i ids)) (activityView (getD list i noStruct) .after) ≡ false → misplaced (before list i) (map activityView (drop i (take n list))) ≡ foundAt list n i
-  unfolding misplaced foundAt
-  place-hit i l f = rw (front-cons list n h i noStruct l, tests i (omega arith) (activityView (getD list i noStruct) .after), f, lt-ltb _ _ l)
+    -- the test of place i
+    tests : (i : ℕ) → i ≤ n → (xs : List ℕ) → every (λ id. hasId id (before i)) xs ≡ every (amongIds (take i ids)) xs
+    tests i m xs = every-same (λ id. hasId id (before i)) (amongIds (take i ids)) (among-before i m) xs
 
-  pub place-end : (i : ℕ) → n ≤ i → misplaced (before list i) (map activityView (drop i (take n list))) ≡ foundAt list n n
-  unfolding misplaced foundAt
-  place-end i l = let m : n ≤ n = omega arith in rw (front-end list n h i l, le-ltb _ _ m)
+    pub place-on : (i : ℕ) → i < n → every (amongIds (take i ids)) (activityIn h s (getD lines i 0) .after) ≡ true → misplaced (before i) (activitiesIn h s (drop i (take n lines))) ≡ misplaced (before (i + 1)) (activitiesIn h s (drop (i + 1) (take n lines)))
+    unfolding misplaced before
+    place-on i m f = rw (front-cons lines n l i 0 m, tests i (omega arith) (activityIn h s (getD lines i 0) .after), f, add-one)
 
-  pub place-first : misplaced [] (map activityView (take n list)) ≡ misplaced (before list 0) (map activityView (drop 0 (take n list)))
+    pub place-hit : (i : ℕ) → i < n → every (amongIds (take i ids)) (activityIn h s (getD lines i 0) .after) ≡ false → misplaced (before i) (activitiesIn h s (drop i (take n lines))) ≡ foundAt h s lines n i
+    unfolding misplaced foundAt
+    place-hit i m f = rw (front-cons lines n l i 0 m, tests i (omega arith) (activityIn h s (getD lines i 0) .after), f, lt-ltb _ _ m)
+
+    pub place-end : (i : ℕ) → n ≤ i → misplaced (before i) (activitiesIn h s (drop i (take n lines))) ≡ foundAt h s lines n n
+    unfolding misplaced foundAt
+    place-end i m = let b : n ≤ n = omega arith in rw (front-end lines n l i m, le-ltb _ _ b)
+
+  pub place-first : (n : ℕ) → misplaced [] (activitiesIn h s (take n lines)) ≡ misplaced (before 0) (activitiesIn h s (drop 0 (take n lines)))
   unfolding before
-  place-first = refl
+  place-first n = refl

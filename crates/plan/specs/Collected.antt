@@ -1,22 +1,20 @@
--- Activities as the reader collects them: structs in arrays, with a column of their ids.
+-- Activity lines as the reader collects them, in an array, with a column of their ids.
 use Prim.Native.Nat.{ℕ, suc}
+use mathlib.Core.Path.{_≡_}
 use mathlib.Core.Bool.{Bool, cond}
 use mathlib.Core.List.{List, [], _∷_}
 use mathlib.Core.Option.{Option, none, some}
 use lib.Dec.{leb, ltb, eqb}
 use lib.ListN.{getD}
 use Rattle.rules.specs.Tests.{anyOf}
-use Rattle.rules.specs.Plan.{Activity}
-use Rattle.plan.specs.View.{activityView, noStruct, Sized}
-use Rattle.plan.specs.declared.Activity.{Activity as ActivityStruct}
+use Rattle.rules.specs.Plan.{Header, Activity}
+use Rattle.plan.specs.LineAt.{activityIn, LineSays}
+use Rattle.plan.specs.declared.order.Line.{Line}
 
 -- ---- ids
 
 unfoldable pub isId : ℕ → ℕ → Bool
 isId id x = eqb x id
-
-abbrev pub idOf : ActivityStruct → ℕ
-idOf a = a .id
 
 unfoldable pub amongIds : List ℕ → ℕ → Bool
 amongIds ids id = anyOf (isId id) ids
@@ -26,23 +24,47 @@ unfoldable pub lineAmong : ℕ → ℕ → List ℕ → ℕ
 lineAmong id n [] = 0
 lineAmong id n (x ∷ xs) = cond (eqb x id) n (lineAmong id (suc n) xs)
 
--- ---- the scheduling order, of structs
+-- the id that the line at a byte of s says
+abbrev pub idIn : Header → List ℕ → ℕ → ℕ
+idIn h s at = activityIn h s at .id
 
-unfoldable pub insertStruct : ActivityStruct → List ActivityStruct → List ActivityStruct
-insertStruct a [] = a ∷ []
-insertStruct a (b ∷ bs) = cond (leb (a .priority) (b .priority)) (a ∷ b ∷ bs) (b ∷ insertStruct a bs)
+-- ---- lines
 
-unfoldable pub orderStruct : List ActivityStruct → List ActivityStruct
-orderStruct [] = []
-orderStruct (a ∷ rest) = insertStruct a (orderStruct rest)
+abbrev pub atOf : Line → ℕ
+atOf l = l .at
 
--- each is within its arrays
-unfoldable pub AllSized : List ActivityStruct → Type 0
-AllSized [] = Unit {0}
-AllSized (a ∷ rest) = Sized a × AllSized rest
+abbrev pub idOf : Line → ℕ
+idOf l = l .id
+
+-- the activity that a line says
+abbrev pub saidBy : Header → List ℕ → Line → Activity
+saidBy h s l = activityIn h s (l .at)
+
+-- the line that stands for an entry outside an array
+abbrev pub blankLine : Line
+blankLine = record { at = 0; id = 0; priority = 0 }
+
+-- it is a line of s and says an activity, of this id and this priority
+pub record LineIn (h : Header) (s : List ℕ) (l : Line) : Type 0 where
+  pub says : LineSays h s (l .at)
+  pub id-is : l .id ≡ saidBy h s l .id
+  pub priority-is : l .priority ≡ saidBy h s l .priority
+
+unfoldable pub LinesIn : Header → List ℕ → List Line → Type 0
+LinesIn h s [] = Unit {0}
+LinesIn h s (l ∷ rest) = LineIn h s l × LinesIn h s rest
+
+-- the scheduling order
+unfoldable pub insertLine : Line → List Line → List Line
+insertLine a [] = a ∷ []
+insertLine a (b ∷ bs) = cond (leb (a .priority) (b .priority)) (a ∷ b ∷ bs) (b ∷ insertLine a bs)
+
+unfoldable pub orderLines : List Line → List Line
+orderLines [] = []
+orderLines (a ∷ rest) = insertLine a (orderLines rest)
 
 -- ---- `after`
 
 -- the activity at place k of the first n, if k is one
-unfoldable pub foundAt : List ActivityStruct → ℕ → ℕ → Option Activity
-foundAt list n k = cond (ltb k n) (some (activityView (getD list k noStruct))) none
+unfoldable pub foundAt : Header → List ℕ → List ℕ → ℕ → ℕ → Option Activity
+foundAt h s lines n k = cond (ltb k n) (some (activityIn h s (getD lines k 0))) none

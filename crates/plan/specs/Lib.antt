@@ -1,3 +1,4 @@
+pub mod LineAt
 pub mod View
 pub mod Reading
 pub mod Cursor

@@ -1,5 +1,7 @@
 -- What the reader answers: the definition's reading, with the activities by place.
+use Prim.Native.Nat.{ℕ}
 use mathlib.Core.Bool.{cond}
+use mathlib.Core.List.{List}
 use lib.Dec.{eqb}
 use Rattle.rules.specs.Order.{order}
 use Rattle.rules.specs.Reading.{Reading, accepted, refused, no}
@@ -11,6 +13,6 @@ unfoldable pub inOrder : Reading → Reading
 inOrder (accepted p) = accepted (record { header = p .header; activities = order (p .activities) })
 inOrder (refused r) = refused r
 
--- what the struct says: its plan, or its refusal
-unfoldable pub readingView : ReadingStruct → Reading
-readingView r = cond (eqb (r .number) 0) (accepted (planView (r .plan))) (no (r .number) (r .line))
+-- what the struct says of the bytes s: their plan, or their refusal
+unfoldable pub readingView : List ℕ → ReadingStruct → Reading
+readingView s r = cond (eqb (r .number) 0) (accepted (planView s (r .plan))) (no (r .number) (r .line))

@@ -4,6 +4,7 @@ use mathlib.Core.Path.{_≡_}
 use mathlib.Core.List.{List, [], _∷_, map}
 use lib.ListN.{length, getD, take}
 use Rattle.rules.specs.Plan.{Header, Window, Setting, Activity, Plan}
+use Rattle.plan.specs.LineAt.{activityIn, LineSays}
 use Rattle.plan.specs.declared.Header.{Header as HeaderStruct}
 use Rattle.plan.specs.declared.Activity.{Activity as ActivityStruct}
 use Rattle.plan.specs.declared.Plan.{Plan as PlanStruct}
@@ -90,12 +91,16 @@ pub record Sized (a : ActivityStruct) : Type 0 where
   pub needs : a .«need_count» ≤ 4
   pub sets : a .«set_count» ≤ 4
 
--- the counts of a plan and of its activities are within their arrays
-pub record PlanSized (p : PlanStruct) : Type 0 where
+-- the activities of the places whose lines begin at these bytes of s
+abbrev pub activitiesIn : Header → List ℕ → List ℕ → List Activity
+activitiesIn h s lines = map (activityIn h s) lines
+
+-- each place has a line of s that says an activity
+pub record PlanSaid (s : List ℕ) (p : PlanStruct) : Type 0 where
   pub few : p .count ≤ 64
-  pub long : length (p .activities) ≡ 64
-  pub sizes : (k : ℕ) → k < p .count → Sized (getD (p .activities) k noStruct)
+  pub long : length (p .lines) ≡ 64
+  pub says : (k : ℕ) → k < p .count → LineSays (headerView (p .header)) s (getD (p .lines) k 0)
 
 -- its activities stand by place
-unfoldable pub planView : PlanStruct → Plan
-planView p = record { header = headerView (p .header); activities = map activityView (take (p .count) (p .activities)) }
+unfoldable pub planView : List ℕ → PlanStruct → Plan
+planView s p = record { header = headerView (p .header); activities = activitiesIn (headerView (p .header)) s (take (p .count) (p .lines)) }

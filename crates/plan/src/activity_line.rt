@@ -59,7 +59,7 @@ fn windows() -> Form
 }
 
 // Numbers from 0 to hi, at most `most` of them.
-fn numbers(hi: u32, most: usize) -> Form
+pub fn numbers(hi: u32, most: usize) -> Form
     ensures { λ r. ⌜ r ≡ numberForm hi most ⌝ }
 {
     Form {

@@ -3,15 +3,19 @@ ghost use mathlib.Core.Path.{_≡_};
 ghost use mathlib.Core.List.{[], map};
 ghost use Prim.Native.Nat.{_≤_};
 ghost use lib.ListN.{length, take};
+ghost use Rattle.rules.specs.Plan.{Header as HeaderValue};
 ghost use Rattle.rules.specs.Tests.{every};
 ghost use Rattle.rules.specs.Reading.{misplaced};
-ghost use Rattle.plan.specs.View.{activityView};
-ghost use Rattle.plan.specs.Collected.{idOf, amongIds, AllSized, foundAt};
-use crate::Activity;
+ghost use Rattle.plan.specs.View.{headerView, PlanSaid, planView};
+ghost use Rattle.plan.specs.LineAt.{activityIn, LineSays};
+ghost use Rattle.plan.specs.Collected.{amongIds, idIn, foundAt};
+use crate::Plan;
+use crate::fields::eight_of;
 use crate::ids::has_id;
+use crate::line::after_at;
 
 // Whether each of the first `count` ids of after is among the first n.
-fn all_among<'a>(after: &'a [u32], count: usize, ids: &'a [u32], n: usize) -> bool
+fn all_among<'a>(after: &'a [u32], count: usize, ids: &'a [u16], n: usize) -> bool
     requires { ⌜ (count ≤ length (now after)) × (n ≤ length (now ids)) ⌝ }
     ensures { λ r. ⌜ r ≡ every (amongIds (take n (now (ids .entry)))) (take count (now (after .entry))) ⌝ }
 {
@@ -25,26 +29,28 @@ fn all_among<'a>(after: &'a [u32], count: usize, ids: &'a [u32], n: usize) -> bo
     true
 }
 
-// Whether each id that a names is among the first n.
-fn follows(a: Activity, ids: &[u32], n: usize) -> bool
-    requires { ⌜ (a .«after_count» ≤ 8) × (n ≤ length (now ids)) ⌝ }
-    ensures { λ r. ⌜ r ≡ every (amongIds (take n (now (ids .entry)))) (activityView a .after) ⌝ }
+// Whether each id that the line at `at` names in `after` is among the first n.
+fn follows<'a>(s: &'a [u8], at: u16, ids: &'a [u16], n: usize) -> bool
+    requires { ⌜ (at ≤ length (now s)) × (n ≤ length (now ids)) ⌝ }
+    ensures { λ r. ⌜ ((h : HeaderValue) → LineSays h (now (s .entry)) at → r ≡ every (amongIds (take n (now (ids .entry)))) (activityIn h (now (s .entry)) at .after)) ⌝ }
 {
-    let after = a.after;
-    all_among(&after, a.after_count, ids, n)
+    let list = after_at(s, at);
+    let after = eight_of(list);
+    all_among(&after, list.count, ids, n)
 }
 
-// The least place of the first n whose `after` names no activity at an earlier place, or n.
-pub fn first_misplaced(list: [Activity; 64], ids: &[u32], n: usize) -> usize
-    requires { ⌜ (n ≤ 64) × (n ≤ length (now ids)) × (take n (now ids) ≡ map idOf (take n list)) × AllSized (take n list) ⌝ }
-    ensures { λ r. ⌜ misplaced [] (map activityView (take n list)) ≡ foundAt list n r ⌝ }
+// The least place whose `after` names no activity at an earlier place, or the number of places; the ids are those by place.
+pub fn first_misplaced<'a>(s: &'a [u8], p: Plan, ids: &'a [u16]) -> usize
+    requires { ⌜ PlanSaid (now s) p × (p .count ≤ length (now ids)) × (take (p .count) (now ids) ≡ map (idIn (headerView (p .header)) (now s)) (take (p .count) (p .lines))) ⌝ }
+    ensures { λ r. ⌜ misplaced [] (planView (now (s .entry)) p .activities) ≡ foundAt (headerView (p .header)) (now (s .entry)) (p .lines) (p .count) r ⌝ }
 {
+    let n = p.count;
+    let lines = p.lines;
     // places that are left to try
     let mut left = n;
     while 0 < left {
         let i = n - left;
-        let a = list[i];
-        if !follows(a, ids, i) {
+        if !follows(s, lines[i], ids, i) {
             return i;
         }
         left -= 1;

@@ -2,7 +2,7 @@
 ghost use mathlib.Core.Path.{_≡_};
 ghost use lib.ListN.{length};
 ghost use Rattle.rules.specs.Reading.{afterLines};
-ghost use Rattle.plan.specs.View.{headerView, PlanSized};
+ghost use Rattle.plan.specs.View.{headerView, PlanSaid};
 ghost use Rattle.plan.specs.Reading.{inOrder, readingView};
 ghost use Rattle.plan.specs.LinesView.{Collected, linesView};
 use crate::Header;
@@ -10,18 +10,15 @@ use crate::Plan;
 use crate::Reading;
 use crate::after::first_misplaced;
 use crate::file::Lines;
-use crate::file::no_activity;
-use crate::ids::ids_of;
+use crate::ids::columns_of;
 use crate::ids::line_of;
 use crate::order::ordered;
 use crate::reach::out_of_reach;
 
 // A refusal, with no plan.
 pub fn refusal(number: u32, line: u32) -> Reading
-    ensures { λ r. ⌜ (r .number ≡ number) × (r .line ≡ line) × (r .plan .count ≡ 0) × (length (r .plan .activities) ≡ 64) ⌝ }
+    ensures { λ r. ⌜ (r .number ≡ number) × (r .line ≡ line) × (r .plan .count ≡ 0) × (length (r .plan .lines) ≡ 64) ⌝ }
 {
-    let a = no_activity();
-    let activities = [a; 64];
     let header = Header {
         horizon: 0,
         minute: 0,
@@ -38,38 +35,38 @@ pub fn refusal(number: u32, line: u32) -> Reading
     let plan = Plan {
         header,
         count: 0,
-        activities,
+        lines: [0; 64],
     };
     Reading { number, line, plan }
 }
 
-// What a file with the header h and the lines t says.
-pub fn judge(h: Header, t: Lines) -> Reading
-    requires { ⌜ Collected t ⌝ }
-    ensures { λ r. ⌜ readingView r ≡ inOrder (afterLines (linesView (headerView h) t)) ⌝ }
-    ensures { λ r. ⌜ PlanSized (r .plan) ⌝ }
+// What the file s says, with the header h and the lines t.
+pub fn judge(s: &[u8], h: Header, t: Lines) -> Reading
+    requires { ⌜ Collected (headerView h) (now s) t ⌝ }
+    ensures { λ r. ⌜ readingView (now (s .entry)) r ≡ inOrder (afterLines (linesView (headerView h) (now (s .entry)) t)) ⌝ }
+    ensures { λ r. ⌜ PlanSaid (now (s .entry)) (r .plan) ⌝ }
 {
     if t.number != 0 {
         return refusal(t.number, t.line);
     }
     let n = t.count;
-    let lines = t.activities;
-    let list = ordered(lines, n);
-    let ids = ids_of(list, n);
-    let p = first_misplaced(list, &ids, n);
+    let list = t.list;
+    let placed = columns_of(ordered(list, n), n);
+    let lines = placed.lines;
+    let ids = placed.ids;
+    let plan = Plan {
+        header: h,
+        count: n,
+        lines,
+    };
+    let p = first_misplaced(s, plan, &ids);
     if p < n {
-        let a = list[p];
         let line_ids = t.ids;
-        return refusal(7, line_of(&line_ids, n, a.id));
+        return refusal(7, line_of(&line_ids, n, ids[p]));
     }
     if out_of_reach(h) {
         return refusal(9, 0);
     }
-    let plan = Plan {
-        header: h,
-        count: n,
-        activities: list,
-    };
     Reading {
         number: 0,
         line: 0,

@@ -2,7 +2,7 @@
 // (document 01, The plan file; When the planner says no).
 ghost use mathlib.Core.Path.{_≡_};
 ghost use Rattle.rules.specs.Reading.{reading};
-ghost use Rattle.plan.specs.View.{PlanSized};
+ghost use Rattle.plan.specs.View.{PlanSaid};
 ghost use Rattle.plan.specs.Reading.{inOrder, readingView};
 
 mod activity_line;
@@ -12,6 +12,7 @@ mod file;
 mod first_line;
 mod ids;
 mod judge;
+pub mod line;
 mod order;
 mod reach;
 
@@ -64,11 +65,11 @@ pub struct Activity {
     pub warm: u32,
 }
 
-// The header and the first `count` activities, by place.
+// The header, and for each of the first `count` places the byte where its line begins.
 pub struct Plan {
     pub header: Header,
     pub count: usize,
-    pub activities: [Activity; 64],
+    pub lines: [u16; 64],
 }
 
 // What a file says: its plan where the number is 0, else the number and the line of its refusal.
@@ -80,8 +81,8 @@ pub struct Reading {
 
 // What the plan file s says.
 pub fn read(s: &[u8]) -> Reading
-    ensures { λ r. ⌜ readingView r ≡ inOrder (reading (now (s .entry))) ⌝ }
-    ensures { λ r. ⌜ PlanSized (r .plan) ⌝ }
+    ensures { λ r. ⌜ readingView (now (s .entry)) r ≡ inOrder (reading (now (s .entry))) ⌝ }
+    ensures { λ r. ⌜ PlanSaid (now (s .entry)) (r .plan) ⌝ }
 {
     if 60000 < s.len() {
         return refusal(1, 0);
@@ -100,5 +101,5 @@ pub fn read(s: &[u8]) -> Reading
         return refusal(fault, 1);
     }
     let header = first.header;
-    judge(header, read_activities(s, end + 1, header))
+    judge(s, header, read_activities(s, end + 1, header))
 }

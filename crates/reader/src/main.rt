@@ -28,7 +28,8 @@ fn show_file(s: &[u8], at: usize) -> usize
         return s.len();
     }
     let to = from + n as usize;
-    show_reading(read(&s[from..to]));
+    let file = &s[from..to];
+    show_reading(file, read(file));
     to
 }
 

@@ -1,7 +1,10 @@
 // A reading, printed: a refusal, or the lines of the plan as its file has them, the activities by place.
+ghost use Rattle.plan.specs.View.{PlanSaid};
 use plan::Activity;
 use plan::Header;
+use plan::Plan;
 use plan::Reading;
+use plan::line::activity_at;
 
 // Writes x.
 fn print(x: u32) {
@@ -117,21 +120,24 @@ fn put_activity(a: Activity) {
     io::write_all(1, b"\n");
 }
 
-// Writes the first n activities.
-fn put_activities(list: [Activity; 64], n: usize) {
+// Writes the activities of the plan p, whose lines are those of s.
+fn put_activities(s: &[u8], p: Plan)
+    requires { ⌜ PlanSaid (now s) p ⌝ }
+{
+    let n = p.count;
+    let lines = p.lines;
+    let header = p.header;
     let mut i = 0;
     while i < n {
-        if 64 <= i {
-            return;
-        }
-        let a = list[i];
-        put_activity(a);
+        put_activity(activity_at(s, lines[i], header));
         i += 1;
     }
 }
 
-// Writes what a file says.
-pub fn show_reading(r: Reading) {
+// Writes what the file s says.
+pub fn show_reading(s: &[u8], r: Reading)
+    requires { ⌜ PlanSaid (now s) (r .plan) ⌝ }
+{
     if r.number != 0 {
         io::write_all(1, b"no");
         put(r.number);
@@ -141,6 +147,5 @@ pub fn show_reading(r: Reading) {
     }
     let p = r.plan;
     put_header(p.header);
-    let list = p.activities;
-    put_activities(list, p.count);
+    put_activities(s, p);
 }

@@ -6,8 +6,7 @@ use mathlib.Core.List.{List, [], _∷_, List·Memᴰ, List·Memᴰ·head, List·
 use native.Mathlib.Numerals.{add-one}
 use native.Mathlib.Omega.{arith}
 use lib.IntN.{pos}
-use lib.ListN.{length, getD, take, List·getD-map}
-use lib.Seq.{getD-take}
+use lib.ListN.{getD}
 use lib.Signed.{_≤ℤ_}
 use Rattle.rules.specs.Plan.{Header, Activity, Entry, Schedule, at, end}
 use Rattle.rules.specs.MeetsB.{charge}
@@ -19,14 +18,17 @@ use Rattle.rules.specs.declared.Outcome.{Outcome}
 use Rattle.rules.specs.declared.Outcome.the-variants.{Placed, Refused}
 use Rattle.rules.proofs.Answers.{replied}
 use Rattle.rules.proofs.Kept.{none-kept, more-kept}
-use Rattle.plan.specs.View.{noStruct, headerView, activityView, planView}
+use Rattle.plan.specs.View.{Sized, headerView, activityView, planView}
+use Rattle.plan.specs.LineAt.{activityIn}
+use Rattle.plan.specs.declared.Activity.{Activity as ActivityStruct}
 use Rattle.plan.specs.declared.Plan.{Plan as PlanStruct}
+use Rattle.plan.proofs.Places.{place-is}
 use Rattle.placed.specs.View.{entriesView, scheduleView}
-use Rattle.placed.specs.Ready.{Reached, Ready}
+use Rattle.placed.specs.Ready.{Reached}
 use Rattle.placed.specs.Marked.{Table}
 use Rattle.placed.specs.declared.Schedule.{Schedule as ScheduleStruct}
 use Rattle.schedule.specs.Grown.{Roomy, Grown}
-use Rattle.schedule.specs.Places.{Placeable, PlacedTo}
+use Rattle.schedule.specs.Places.{Placeable, Candidate, PlacedTo}
 
 -- nothing placed, and one more rightly answered
 
@@ -49,54 +51,48 @@ reached-more h ps a (Placed s) F R K =
     }
 reached-more h ps a (Refused m) F R K = K
 
-module _ (p : PlanStruct) (G : Placeable p) where
-  -- the activity at a place is the array's
-  pub activity-is : (k : ℕ) → k < p .count → activityAt (planView p) k ≡ activityView (getD (p .activities) k noStruct)
-  unfolding activityAt planView activityView
-  activity-is k h =
-      ap (λ (ys : List Activity). getD ys k noActivity) (G .ordered)
-      ∙ List·getD-map activityView (take (p .count) (p .activities)) k noStruct
-      ∙ ap activityView (getD-take (p .count) (p .activities) k noStruct h)
+module _ {s : List ℕ} {p : PlanStruct} (G : Placeable s p) where
+  -- the activity at a place is what the place's line says
+  activity-is : (k : ℕ) → k < p .count → activityAt (planView s p) k ≡ activityIn (headerView (p .header)) s (getD (p .lines) k 0)
+  unfolding activityAt
+  activity-is k h = ap (λ (ys : List Activity). getD ys k noActivity) (G .ordered) ∙ place-is s p (G .said) k h
 
-  pub placed-none : (starts : List ℕ) → length starts ≡ 64 → PlacedTo p 0 (record { count = 0; activities = p .activities; starts = starts })
+  pub candidate-is : {k : ℕ} {a : ActivityStruct} → k < p .count → activityView a ≡ activityIn (headerView (p .header)) s (getD (p .lines) k 0) → Sized a → Candidate s p k a
+  candidate-is {k} h e z = record { inside = h; view = e ∙ sym (activity-is k h); formed = rw e (G .each k h); sized = z }
+
+  pub placed-none : {t : ScheduleStruct} → t .count ≡ 0 → Roomy t → PlacedTo s p 0 t
   unfolding scheduleView entriesView placed planView
-  placed-none starts e =
+  placed-none {t} e R =
+      let none : scheduleView t ≡ [] = rw e in
       record {
-        view = refl;
+        view = none;
         few = omega arith;
-        activities = G .long;
-        starts = e;
+        activities = R .activities;
+        starts = R .starts;
         sizes = λ i h. absurd (omega arith);
-        reached = reached-none (headerView (p .header)) (G .header) (G .reachable);
+        reached = rw none (reached-none (headerView (p .header)) (G .header) (G .reachable));
       }
 
-  module _ (k : ℕ) (h : k < p .count) (s : ScheduleStruct) (S : PlacedTo p k s) where
-    pub ready : Ready (p .header) s (getD (p .activities) k noStruct)
-    ready = record { reached = S .reached; few = omega (arith, S .few, G .few); sizes = S .sizes; candidate = G .each k h; sized = G .sizes k h }
+-- a candidate beside those placed at earlier places
+module _ {s : List ℕ} {p : PlanStruct} {k : ℕ} {a : ActivityStruct} {t : ScheduleStruct} (A : Candidate s p k a) (S : PlacedTo s p k t) where
+  -- its answer is the outcome of the place
+  pub outcome-is : {o : Outcome} → o ≡ reply (headerView (p .header)) (scheduleView t) (activityView a) → o ≡ outcome (planView s p) k
+  unfolding outcome planView
+  outcome-is e = rw (← A .view, ← S .view) e
 
-    pub roomy : Roomy s
-    roomy = record { few = omega (arith, S .few, G .few); activities = S .activities; starts = S .starts }
+  pub placed-next : {o : Outcome} {r : ScheduleStruct} → o ≡ reply (headerView (p .header)) (scheduleView t) (activityView a) → Grown t a o r → PlacedTo s p (k + 1) r
+  unfolding placed planView
+  placed-next e W =
+      record {
+        view = W .view ∙ rw (add-one, ← A .view, ← S .view, e);
+        few = omega (arith, W .few, S .few);
+        activities = W .activities;
+        starts = W .starts;
+        sizes = W .sizes (S .sizes) (A .sized);
+        reached = rw (W .view, e) (reached-more (headerView (p .header)) (scheduleView t) (activityView a) _ (A .formed) (replied (headerView (p .header)) (scheduleView t) (activityView a)) (S .reached));
+      }
 
-    -- the answer beside those placed at earlier places is the outcome of the place
-    pub outcome-is : (o : Outcome) → o ≡ reply (headerView (p .header)) (scheduleView s) (activityView (getD (p .activities) k noStruct)) → o ≡ outcome (planView p) k
-    unfolding outcome planView
-    outcome-is o e = rw (activity-is k h, ← S .view) e
-
-    pub placed-next : (o : Outcome) (r : ScheduleStruct) → o ≡ outcome (planView p) k → Grown s (getD (p .activities) k noStruct) o r → PlacedTo p (k + 1) r
-    unfolding placed planView
-    placed-next o r q W =
-        let e = q ∙ sym (outcome-is _ refl) in
-        let a : Activity = activityView (getD (p .activities) k noStruct) in
-        record {
-          view = W .view ∙ rw (add-one, activity-is k h, ← S .view, e);
-          few = omega (arith, W .few, S .few);
-          activities = W .activities;
-          starts = W .starts;
-          sizes = W .sizes (S .sizes) (G .sizes k h);
-          reached = rw (W .view, e) (reached-more (headerView (p .header)) (scheduleView s) a _ (G .each k h) (replied (headerView (p .header)) (scheduleView s) a) (S .reached));
-        }
-
-    -- and so is its table
-    pub table-is : (table : List ℕ) → (let a = activityView (getD (p .activities) k noStruct) in Table (meets (headerView (p .header)) (scheduleView s) a) (starts (headerView (p .header)) a) table)
-        → Table (meets (headerView (p .header)) (placed (planView p) k) (activityAt (planView p) k)) (starts (headerView (p .header)) (activityAt (planView p) k)) table
-    table-is table T = rw (activity-is k h, ← S .view) T
+  -- and its table is that of the place
+  pub table-is : {table : List ℕ} → Table (meets (headerView (p .header)) (scheduleView t) (activityView a)) (starts (headerView (p .header)) (activityView a)) table
+      → Table (meets (headerView (p .header)) (placed (planView s p) k) (activityAt (planView s p) k)) (starts (headerView (p .header)) (activityAt (planView s p) k)) table
+  table-is T = rw (← A .view, ← S .view) T

@@ -7,20 +7,17 @@ use Rattle.calls.proofs.Running.{runs-are, columns-as}
 use Rattle.calls.proofs.runs_at.Statement.{statement}
 use Rattle.calls.proofs.runs_at.Tie as tie
 
+candidate-at-requires : tie.Need-candidate-at-requires
+candidate-at-requires c κs = search needs
+
 table-at-requires : tie.Need-table-at-requires
 table-at-requires c κs = search needs
 
-mul-activity : tie.Need-mul-activity
-mul-activity c = search needs
-
-element-copy-out-activity : tie.Need-element-copy-out-activity
-element-copy-out-activity c = search needs
-
 start-count-requires : tie.Need-start-count-requires
-start-count-requires c κs = let start = c .before .before .before .before .before in (start .pre .0 .header, start .pre .0 .each _ (start .pre .1))
+start-count-requires c κs = search needs
 
 write-runs-requires : tie.Need-write-runs-requires
-write-runs-requires c κs = c .before .before .before .start-count .ensures .1
+write-runs-requires c κs = search needs
 
 same-length : tie.Need-same-length
 same-length c = search needs
@@ -32,17 +29,17 @@ returns : tie.Need-returns
 returns c =
     let written = c .before .before .before .before in
     let count = written .before .before .before .before in
-    let table = count .before .before .before in
-    let start = table .before .before .before in
-    columns-as _ _ (sym (ap (filling _) (runs-are _ (start .pre .0) _ (start .pre .1) _ (table .table-at .ensures) (start .args .set) _ (count .start-count .ensures .0)))) _ _ _ _ _ (written .write-runs .ensures)
+    let table = count .before in
+    let candidate = table .before in
+    let start = candidate .before .before .before .before .before in
+    columns-as _ _ (sym (ap (filling _) (runs-are _ _ _ _ (candidate .candidate-at .ensures) _ (table .table-at .ensures) (start .args .set) _ (count .start-count .ensures .0)))) _ _ _ _ _ (written .write-runs .ensures)
 
 pub runs-at-spec : {M : Type 1} → statement M
 runs-at-spec =
     tie.close
     (tie.spec
+    candidate-at-requires
     table-at-requires
-    mul-activity
-    element-copy-out-activity
     start-count-requires
     write-runs-requires
     same-length

@@ -14,7 +14,7 @@ use Rattle.plan.specs.Reading.{inOrder}
 use Rattle.plan.proofs.Unless.{unless-value, unless-fault}
 use Rattle.plan.proofs.Cutting.{lines-next, lineWith, line-ended, line-fields}
 use Rattle.plan.proofs.Lining.{form-is}
-use Rattle.plan.proofs.Judging.{view-refused, none-sized, read-1, read-short, read-2, read-fault, read-lines}
+use Rattle.plan.proofs.Judging.{view-refused, none-said, read-1, read-short, read-2, read-fault, read-lines}
 use Rattle.plan.proofs.read.Statement.{statement}
 use Rattle.plan.proofs.read.Tie as tie
 
@@ -23,8 +23,9 @@ refusal-requires c κs = search needs
 
 returns : tie.Need-returns
 returns c =
+    let s = c .before .before .before .args .s .now in
     let r = c .refusal .ensures in
-    (view-refused (c .refusal .result) 1 0 (λ e. omega arith) (r .0) (r .1) ∙ sym (read-1 (c .before .before .before .args .s .now) (c .before .if1 .taken)), none-sized (c .refusal .result) (r .2) (r .3))
+    (view-refused s (c .refusal .result) 1 0 (λ e. omega arith) (r .0) (r .1) ∙ sym (read-1 s (c .before .if1 .taken)), none-said s (c .refusal .result) (r .2) (r .3))
 
 find-requires : tie.Need-find-requires
 find-requires c κs = search needs
@@ -37,7 +38,7 @@ returns-2 c =
     let f = c .before .before in
     let s = f .before .before .before .args .s .now in
     let r = c .refusal2 .ensures in
-    (view-refused (c .refusal2 .result) 2 1 (λ e. omega arith) (r .0) (r .1) ∙ sym (read-short s (f .before .if1 .left) (f .find .result) (f .find .ensures .0) (omega arith)), none-sized (c .refusal2 .result) (r .2) (r .3))
+    (view-refused s (c .refusal2 .result) 2 1 (λ e. omega arith) (r .0) (r .1) ∙ sym (read-short s (f .before .if1 .left) (f .find .result) (f .find .ensures .0) (omega arith)), none-said s (c .refusal2 .result) (r .2) (r .3))
 
 sub-l : tie.Need-sub-l
 sub-l c = search needs
@@ -66,9 +67,9 @@ returns-3 c =
     let end = f .find .result in
     let w = take (end - 0) s in
     let r = c .refusal3 .ensures in (
-      view-refused (c .refusal3 .result) 2 1 (λ e. omega arith) (r .0) (r .1)
+      view-refused s (c .refusal3 .result) 2 1 (λ e. omega arith) (r .0) (r .1)
           ∙ sym (read-2 s (f .before .if1 .left) (lineWith w) (lines (drop (end + 1) s)) (lines-next s 0 end (f .find .ensures .0) (omega (arith, x .if2 .left))) (form-is (bytes "plan") 12 (lineWith w) w (line-ended w) (line-fields w) ∙ sym (m .formed .ensures) ∙ not-true _ (c .before .if3 .taken))),
-      none-sized (c .refusal3 .result) (r .2) (r .3),
+      none-said s (c .refusal3 .result) (r .2) (r .3),
     )
 
 read-header-requires : tie.Need-read-header-requires
@@ -88,9 +89,9 @@ returns-4 c =
     let end = f .find .result in
     let w = take (end - 0) s in
     let r = c .refusal4 .ensures in (
-      view-refused (c .refusal4 .result) _ 1 (c .before .if4 .taken) (r .0) (r .1)
+      view-refused s (c .refusal4 .result) _ 1 (c .before .if4 .taken) (r .0) (r .1)
           ∙ sym (read-fault s (f .before .if1 .left) (lineWith w) (lines (drop (end + 1) s)) (lines-next s 0 end (f .find .ensures .0) (omega (arith, x .if2 .left))) (form-is (bytes "plan") 12 (lineWith w) w (line-ended w) (line-fields w) ∙ sym (m .formed .ensures) ∙ not-false _ (y .if3 .left)) _ (rw (line-fields w) (sym (h .read-header .ensures) ∙ unless-fault _ _ (c .before .if4 .taken)))),
-      none-sized (c .refusal4 .result) (r .2) (r .3),
+      none-said s (c .refusal4 .result) (r .2) (r .3),
     )
 
 add-read-activities : tie.Need-add-read-activities

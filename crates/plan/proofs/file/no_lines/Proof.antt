@@ -3,16 +3,13 @@
 use mathlib.Core.Path.{refl}
 use native.Mathlib.Omega.{arith}
 use borrow.Author.Needs.{needs}
-use Rattle.plan.specs.Collected.{AllSized}
+use Rattle.plan.specs.Collected.{LinesIn}
 use Rattle.plan.proofs.file.no_lines.Statement.{statement}
 use Rattle.plan.proofs.file.no_lines.Tie as tie
 
-no-activity-requires : tie.Need-no-activity-requires
-no-activity-requires c κs = search needs
-
 returns : tie.Need-returns
-unfolding AllSized
-returns c = (refl, refl, record { small = omega arith; ids-long = search needs; long = search needs; their-ids = refl; sized = tt })
+unfolding LinesIn
+returns c = (refl, refl, λ h s. record { small = omega arith; ids-long = search needs; long = search needs; their-ids = refl; said = tt })
 
 pub no-lines-spec : {M : Type 1} → statement M
-no-lines-spec = tie.close (tie.spec no-activity-requires returns)
+no-lines-spec = tie.close (tie.spec returns)

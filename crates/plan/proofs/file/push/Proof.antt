@@ -1,14 +1,13 @@
 -- `file::push` meets its contract.
 -- Assumes nothing.
-use Prim.Native.Nat.{_<_}
-use mathlib.Core.Path.{refl, _∙_}
+use mathlib.Core.Path.{_≡_, refl, _∙_}
 use mathlib.Core.List.{_∷_, []}
 use native.Mathlib.Omega.{arith}
 use borrow.Author.Needs.{needs}
 use lib.ListN.{length, take, length-set}
 use Rattle.plan.proofs.Fronts.{front-set, map-append}
 use Rattle.plan.specs.Collected.{idOf}
-use Rattle.plan.proofs.Ordering.{sized-append}
+use Rattle.plan.proofs.Ordering.{append-in}
 use Rattle.plan.proofs.file.push.Statement.{statement}
 use Rattle.plan.proofs.file.push.Tie as tie
 
@@ -18,11 +17,11 @@ mul-r c = search needs
 element-write-r : tie.Need-element-write-r
 element-write-r c = search needs
 
-mul-a : tie.Need-mul-a
-mul-a c = search needs
+mul-line : tie.Need-mul-line
+mul-line c = search needs
 
-element-set-from-a : tie.Need-element-set-from-a
-element-set-from-a c = search needs
+element-set-from-line : tie.Need-element-set-from-line
+element-set-from-line c = search needs
 
 add-r : tie.Need-add-r
 add-r c = search needs
@@ -30,22 +29,21 @@ add-r c = search needs
 returns : tie.Need-returns
 returns c =
     let t = c .args .t in
-    let a = c .args .a in
-    let g = c .pre .1 in
-    let m : t .count < length (t .activities) = omega (arith, g .long) in
-    let n : t .count < length (t .ids) = omega (arith, g .ids-long) in
-    let e = front-set (t .activities) (t .count) a m in (
+    let l = c .args .line in
+    let a = c .pre .1 in
+    let b : length (t .ids) ≡ 64 = search needs in
+    let e = front-set (t .list) (t .count) l (omega arith) in (
       refl,
       refl,
       e,
-      record {
+      λ h s g k. record {
         small = omega arith;
-        ids-long = simp length-set (g .ids-long);
-        long = simp length-set (g .long);
-        their-ids = front-set (t .ids) (t .count) (a .id) n ∙ rw (e, g .their-ids, map-append idOf (take (t .count) (t .activities)) (a ∷ []));
-        sized = rw e (sized-append (take (t .count) (t .activities)) a (g .sized) (c .pre .2));
+        ids-long = simp length-set b;
+        long = simp length-set a;
+        their-ids = front-set (t .ids) (t .count) (l .id) (omega arith) ∙ rw (e, g .their-ids, map-append idOf (take (t .count) (t .list)) (l ∷ []));
+        said = rw e (append-in h s (take (t .count) (t .list)) l (g .said) k);
       },
     )
 
 pub push-spec : {M : Type 1} → statement M
-push-spec = tie.close (tie.spec mul-r element-write-r mul-a element-set-from-a add-r returns)
+push-spec = tie.close (tie.spec mul-r element-write-r mul-line element-set-from-line add-r returns)

@@ -1,9 +1,7 @@
 -- `put_finished` meets its contract.
 -- Assumes nothing.
-use native.Mathlib.Omega.{arith}
 use borrow.Author.Needs.{needs}
 use Rattle.plan.specs.View.{headerView}
-use Rattle.placed.proofs.Places.{reached-bounded}
 use Rattle.report.proofs.LineByLine.{schedule-count, end-written}
 use Rattle.report.proofs.whole.put_finished.Statement.{statement}
 use Rattle.report.proofs.whole.put_finished.Tie as tie
@@ -12,12 +10,10 @@ sub-refused : tie.Need-sub-refused
 sub-refused c = search needs
 
 last-charge-requires : tie.Need-last-charge-requires
-last-charge-requires c κs = let start = c .before .before .before in (start .pre .1 .reached, omega (arith, start .pre .1 .few, start .pre .0 .few))
+last-charge-requires c κs = search needs
 
 total-volume-requires : tie.Need-total-volume-requires
-total-volume-requires c κs =
-    let start = c .before .before .before .before in
-    reached-bounded _ _ (start .pre .1 .reached) (omega (arith, start .pre .1 .few, start .pre .0 .few)) (start .pre .1 .sizes)
+total-volume-requires c κs = search needs
 
 put-end-requires : tie.Need-put-end-requires
 put-end-requires c κs = search needs
