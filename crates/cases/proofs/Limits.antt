@@ -5,12 +5,9 @@ use mathlib.Core.Path.{_≡_, refl}
 use mathlib.Core.Bool.{Bool, true, not}
 use mathlib.Core.List.{List, [], _∷_}
 use Rattle.rules.specs.Open.{opened}
-use Rattle.rules.specs.Plan.{Header, Entry}
+use Rattle.rules.specs.Plan.{Entry}
 use Rattle.rules.specs.MeetsU.{unitsKept}
-use Rattle.cases.proofs.Rows.{all, rowsOpened, prints, starts}
-
-unfoldable pub header : ℕ → Header
-header horizon = record { horizon = horizon; minute = 0; capacity = 1; floor = 0; first = 0; rate = 0; handover = 0; engines = 0; peak = 0; volume = 0; heater = 0 }
+use Rattle.cases.proofs.Rows.{all, header, rowsOpened, prints, starts}
 
 -- an activity of unit 0 at this start, with this duration
 unfoldable pub held : ℕ → ℕ → Entry
@@ -67,5 +64,5 @@ limitExamples =
     ∷ []
 
 limits : all limitExamples ≡ true
-unfolding opened rowsOpened header held limitExamples
+unfolding opened rowsOpened held limitExamples
 limits = refl

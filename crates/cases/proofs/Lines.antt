@@ -3,28 +3,21 @@
 use Prim.Native.Nat.{ℕ, zero, suc, _+_}
 use Prim.Native.String.{String}
 use mathlib.Core.Path.{_≡_, refl}
-use mathlib.Core.Bool.{Bool, true, _&&_}
+use mathlib.Core.Bool.{Bool, true}
 use mathlib.Core.List.{List, [], _∷_}
-use lib.Dec.{eqb}
 use Rattle.rules.specs.Open.{opened}
 use Rattle.rules.specs.Plan.{Activity}
 use Rattle.rules.specs.Number.{decimal}
 use Rattle.rules.specs.Lines.{lines}
 use Rattle.rules.specs.Outcomes.{noActivity}
-use Rattle.rules.specs.Reading.{Reading, accepted, refused, activityLines, reading}
+use Rattle.rules.specs.Reading.{activityLines, reading}
 use Rattle.cases.proofs.Inputs.{tabbed}
-use Rattle.cases.proofs.Limits.{header}
-use Rattle.cases.proofs.Rows.{all, rowsOpened, equal, prints}
+use Rattle.cases.proofs.Rows.{all, rowsOpened, equal, header, prints, refuses}
 
 -- so many bytes, none of them LF
 unfoldable pub sameBytes : ℕ → List ℕ
 sameBytes zero = []
 sameBytes (suc n) = 120 ∷ sameBytes n
-
--- the refusal's number and line, or 0 and 0
-unfoldable pub refuses : Reading → ℕ → ℕ → Bool
-refuses (accepted p) number line = eqb number 0 && eqb line 0
-refuses (refused r) number line = eqb (r .number) number && eqb (r .line) line
 
 unfoldable pub filed : List ℕ → ℕ → ℕ → Bool
 filed s number line = refuses (reading s) number line
@@ -68,7 +61,12 @@ readingExamples =
     ∷ prints "plan 9 0 1 0 0 0 0 0 0 0 0\nact 1 5 1 0 - 9 - - - 0 0 0 0 0\nact 2 4 1 0 - 1 - - - 0 0 0 0 0\n" "no 7 3\n"
     -- 7 before 9
     ∷ prints "plan 1 0 5 0 0 0 5 0 0 0 0\nact 1 0 1 0 - 2 - - - 0 0 0 0 0\n" "no 7 2\n"
-    -- shorter words; a field more; an activity line with one less and one more; a second first line
+    -- an empty file; a tab for the last LF
+    ∷ prints "" "no 2 1\n"
+    ∷ prints "plan 1 0 1 0 0 0 0 0 0 0 0 " "no 2 1\n"
+    -- other words of the same length; shorter ones; a field more; an activity line with one less and one more; a second first line
+    ∷ prints "alan 1 0 1 0 0 0 0 0 0 0 0\n" "no 2 1\n"
+    ∷ prints "plan 9 0 1 0 0 0 0 0 0 0 0\nacs 1 0 1 0 - - - - - 0 0 0 0 0\n" "no 2 2\n"
     ∷ prints "pla 1 0 1 0 0 0 0 0 0 0 0\n" "no 2 1\n"
     ∷ prints "plan 1 0 1 0 0 0 0 0 0 0 0 0\n" "no 2 1\n"
     ∷ prints "plan 9 0 1 0 0 0 0 0 0 0 0\nac 1 0 1 0 - - - - - 0 0 0 0 0\n" "no 2 2\n"
@@ -127,5 +125,5 @@ readingExamples =
     ∷ []
 
 readings : all readingExamples ≡ true
-unfolding opened rowsOpened header sameBytes refuses filed activities sixtyFifth readingExamples
+unfolding opened rowsOpened sameBytes filed activities sixtyFifth readingExamples
 readings = refl

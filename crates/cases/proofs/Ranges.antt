@@ -11,8 +11,7 @@ use Rattle.rules.specs.Plan.{Window, Setting, Activity}
 use Rattle.rules.specs.Lines.{lines, fields, lineOf}
 use Rattle.rules.specs.Reading.{Reading, accepted, refused, planLines}
 use Rattle.cases.proofs.Inputs.{tabbed}
-use Rattle.cases.proofs.Lines.{refuses}
-use Rattle.cases.proofs.Rows.{all, rowsOpened, equal}
+use Rattle.cases.proofs.Rows.{all, rowsOpened, equal, refuses}
 
 -- the fields of a first line and of an activity line in which every range is kept
 unfoldable pub headerFields : List (List ℕ)
@@ -202,5 +201,5 @@ rangeExamples =
     ∷ []
 
 ranges : all rangeExamples ≡ true
-unfolding opened rowsOpened refuses headerFields activityFields replaced headed inHeader inActivity headerNumbers windowNumbers settingNumbers numbersOf activityNumbers rangeExamples
+unfolding opened rowsOpened headerFields activityFields replaced headed inHeader inActivity headerNumbers windowNumbers settingNumbers numbersOf activityNumbers rangeExamples
 ranges = refl

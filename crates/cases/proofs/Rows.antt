@@ -6,6 +6,8 @@ use mathlib.Core.Bool.{Bool, true, false, _&&_}
 use mathlib.Core.List.{List, [], _∷_}
 use lib.Dec.{eqb}
 use lib.ListN.{length}
+use Rattle.rules.specs.Plan.{Header}
+use Rattle.rules.specs.Reading.{Reading, accepted, refused}
 use Rattle.rules.specs.Report.{output}
 use Rattle.rules.specs.Calls.{Terms, outcomeCall, startsCall}
 use Rattle.rules.specs.declared.Interval.{Interval}
@@ -45,7 +47,16 @@ starts plan place set runs =
     let filled = startsCall (tabbed plan) place set 2048 in
     equal (ends (filled .written)) runs && termsAre (filled .terms) 0 0 (length (filled .written) ∷ [])
 
+-- a file's refusal, or 0 and 0 where it is accepted
+unfoldable pub refuses : Reading → ℕ → ℕ → Bool
+refuses (accepted p) number line = eqb number 0 && eqb line 0
+refuses (refused r) number line = eqb (r .number) number && eqb (r .line) line
+
+-- the first line of a plan in which nothing but the horizon matters
+unfoldable pub header : ℕ → Header
+header horizon = record { horizon = horizon; minute = 0; capacity = 1; floor = 0; first = 0; rate = 0; handover = 0; engines = 0; peak = 0; volume = 0; heater = 0 }
+
 -- what the theorem of a table opens
 unfoldable pub rowsOpened : Unit {0}
-unfolding all equal termsAre prints answers ends starts tabbed
+unfolding all equal termsAre prints answers ends starts refuses header tabbed
 rowsOpened = tt

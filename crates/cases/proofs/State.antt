@@ -37,6 +37,8 @@ stateExamples =
     -- the effect tick is the end, not the start, of the later place and of the earlier
     ∷ starts "plan 8 0 1 0 0 0 0 0 0 0 0\nact 1 0 1 2 - - - - 1=3 0 0 0 0 0\nact 2 1 2 2 - - - - 1=5 0 0 0 0 0\nact 3 2 1 0 - - - 1=5 - 0 0 0 0 0\n" 2 8 (4 ∷ 7 ∷ [])
     ∷ starts "plan 8 0 1 0 0 0 0 0 0 0 0\nact 1 0 2 2 - - - - 1=3 0 0 0 0 0\nact 2 1 1 2 - - - - 1=5 0 0 0 0 0\nact 3 2 1 0 - - - 1=3 - 0 0 0 0 0\n" 2 8 (4 ∷ 7 ∷ [])
+    -- a set stands over one that took effect before it, whatever the values
+    ∷ starts "plan 6 0 1 0 0 0 0 0 0 0 0\nact 1 0 1 0 - - - - 1=9 0 0 0 0 0\nact 2 1 1 2 - - - - 1=5 0 0 0 0 0\nact 3 2 1 0 - - - 1=5 - 0 0 0 0 0\n" 2 8 (3 ∷ 5 ∷ [])
     -- a value that is less than the one needed, and one that is more
     ∷ starts "plan 4 0 1 0 0 0 0 0 0 0 0\nact 1 0 1 0 - - - - 1=3 0 0 0 0 0\nact 2 1 1 0 - - - 1=4 - 0 0 0 0 0\n" 1 8 []
     ∷ starts "plan 4 0 1 0 0 0 0 0 0 0 0\nact 1 0 1 0 - - - - 1=3 0 0 0 0 0\nact 2 1 1 0 - - - 1=2 - 0 0 0 0 0\n" 1 8 []
