@@ -48,7 +48,7 @@ limitExamples =
     ∷ starts "plan 4 0 1 0 0 0 0 0 0 0 0\nact 1 0 1 1 - - - - - 0 0 0 0 0\nact 2 1 1 0 - - 0 - - 0 0 0 0 0\n" 1 4 (0 ∷ 3 ∷ [])
     -- engines over the limit only in the candidate's last tick, at start 2, only in the one between, at 3, only in its first, at 4
     ∷ starts "plan 9 0 1 0 0 0 0 3 0 0 0\nact 1 0 1 4 - - - - - 2 0 0 0 0\nact 2 1 3 0 - - - - - 2 0 0 0 0\n" 1 16 (0 ∷ 1 ∷ 5 ∷ 6 ∷ [])
-    -- and at the limit's end of a longer one: only after the first tick, at start 3
+    -- beside a placed one of three ticks: only after the candidate's first tick, at start 3
     ∷ starts "plan 9 0 1 0 0 0 0 3 0 0 0\nact 1 0 3 4 - - - - - 2 0 0 0 0\nact 2 1 2 0 - - - - - 2 0 0 0 0\n" 1 16 (0 ∷ 2 ∷ 7 ∷ 7 ∷ [])
     -- peaks the same
     ∷ starts "plan 9 0 1 0 0 0 0 0 3 0 0\nact 1 0 1 4 - - - - - 0 2 0 0 0\nact 2 1 3 0 - - - - - 0 2 0 0 0\n" 1 32 (0 ∷ 1 ∷ 5 ∷ 6 ∷ [])
