@@ -2,9 +2,12 @@ pub mod Inputs
 pub mod Rows
 pub mod Edges
 pub mod RefusalTable
+pub mod Warmup
 pub mod Charge
 pub mod State
 pub mod Limits
 pub mod Letters
 pub mod Lines
+pub mod Ranges
+pub mod Outcomes
 pub mod Starts

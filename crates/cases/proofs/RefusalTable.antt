@@ -12,7 +12,7 @@ use Rattle.rules.specs.Open.{opened}
 use Rattle.rules.specs.Tests.{every}
 use Rattle.rules.specs.Number.{decimal}
 use Rattle.rules.specs.Reading.{reading, no}
-use Rattle.rules.specs.Calls.{Terms, refusal, full, outcomeCall, reportCall, startsCall}
+use Rattle.rules.specs.Calls.{Terms, refusal, outcomeCall, reportCall, startsCall}
 use Rattle.cases.proofs.Inputs.{tabbed, lineP, lineA, worked}
 use Rattle.rules.proofs.Tests.{every-mem, and-left, and-right}
 
@@ -73,10 +73,6 @@ orderRows =
     ∷ record { number = 11; line = 0; answer = startsCall worked 4 512 0 .terms }
     ∷ record { number = 12; line = 0; answer = startsCall worked 0 512 0 .terms }
     ∷ record { number = 10; line = 0; answer = startsCall worked 0 0 0 .terms }
-    -- a 65th activity line that is malformed: 2 before 5
-    ∷ record { number = 2; line = 66; answer = filed (lineP ++ numbered 64 ++ tabbed "act 65\n") }
-    -- one byte short of the report's 70
-    ∷ record { number = 10; line = 0; answer = reportCall worked 69 .terms }
     ∷ []
 
 -- the answer is that refusal
@@ -88,13 +84,8 @@ unfolding opened rows refusesSo filed numbered tabbed lineP lineA worked
 all-rows = refl
 
 all-order-rows : every refusesSo orderRows ≡ true
-unfolding opened orderRows refusesSo filed numbered tabbed lineP lineA worked
+unfolding opened orderRows refusesSo tabbed lineP lineA worked
 all-order-rows = refl
-
--- the report's 70 bytes fit into 70
-report-fits : reportCall worked 70 .terms ≡ full (70 ∷ [])
-unfolding opened tabbed lineP lineA worked
-report-fits = refl
 
 -- numbers 2 to 12, in this order
 numbers-are : map (λ r. r .number) rows ≡ 2 ∷ 3 ∷ 4 ∷ 5 ∷ 6 ∷ 7 ∷ 8 ∷ 9 ∷ 10 ∷ 11 ∷ 12 ∷ []
