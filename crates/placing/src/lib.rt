@@ -34,7 +34,7 @@ pub fn place_to(
 ) -> usize
     requires { ⌜ Placeable (now s) plan × (k ≤ plan .count) × (length (now answers) ≡ 64) × Sized (now ticks) (now amounts) (now settings) (now units) ⌝ }
     ensures { λ r. ⌜ PlacedTo (now (s .entry)) plan k r (now (ticks .exit)) (now (amounts .exit)) (now (settings .exit)) (now (units .exit)) ⌝ }
-    ensures { λ _. ⌜ AnsweredTo (now (s .entry)) plan k (now (answers .exit)) ⌝ }
+    ensures { λ _. ⌜ AnsweredTo (now (s .entry)) plan k (now (answers .exit)) × Sized (now (ticks .exit)) (now (amounts .exit)) (now (settings .exit)) (now (units .exit)) ⌝ }
 {
     let mut n = 0;
     let mut i = 0;

@@ -9,7 +9,7 @@ use Rattle.placing.proofs.place_to.Statement.{statement}
 use Rattle.placing.proofs.place_to.Tie as tie
 
 abbrev Inv-loop : tie.InvT-loop
-Inv-loop s plan k answers₀ ticks₀ amounts₀ settings₀ units₀ n₀ i₀ answers ticks amounts settings units n i = 
+Inv-loop s plan k answers₀ ticks₀ amounts₀ settings₀ units₀ n₀ i₀ answers ticks amounts settings units n i =
     (i ≤ k) × Sized ticks amounts settings units × PlacedTo s plan i n ticks amounts settings units × AnsweredTo s plan i answers
 
 abbrev μ-loop : tie.MeasureT-loop
@@ -31,10 +31,10 @@ loop-again : tie.Need-loop-again Inv-loop μ-loop
 loop-again c = let w = c .place-next .ensures in (omega arith, w .0, w .1 .0, w .1 .1)
 
 returns : tie.Need-returns Inv-loop μ-loop
-returns c = 
+returns c =
     let at = c .before in
     let e : at .before .before .args .k ≡ at .loop .i = omega arith in
-    (rw e (at .loop .inv .2), rw e (at .loop .inv .3))
+    (rw e (at .loop .inv .2), (rw e (at .loop .inv .3), at .loop .inv .1))
 
 pub place-to-spec : {M : Type 1} → statement M
 place-to-spec =

@@ -11,19 +11,19 @@ candidate-at-requires : tie.Need-candidate-at-requires
 candidate-at-requires c κs = search needs
 
 put-candidate-requires : tie.Need-put-candidate-requires
-put-candidate-requires c κs = 
+put-candidate-requires c κs =
     let s = c .before .before .before .before .before .before in
     let A = c .before .before .before .candidate-at .ensures in
     let z = s .pre .0 .2 in
     ((omega (arith, s .pre .1 .0 .few, A .inside, s .pre .0 .0 .said .few), A .sized, A .formed .needs, A .formed .sets), (z .amountsLong, z .settingsLong, z .unitsLong))
 
 reply-to-requires : tie.Need-reply-to-requires
-reply-to-requires c κs = 
+reply-to-requires c κs =
     let s = c .before .before .before .before .before .before .before .before .before .before .before in
     (_, beside (c .before .before .before .before .before .before .before .before .candidate-at .ensures) (s .pre .0 .0 .said .few) (s .pre .1 .0) (c .before .before .before .before .put-candidate .ensures .0) (c .before .before .before .before .put-candidate .ensures .1 .1 .0) (c .before .before .before .before .put-candidate .ensures .1 .1 .1) (c .before .before .before .before .put-candidate .ensures .1 .1 .2))
 
 answer-of-requires : tie.Need-answer-of-requires
-answer-of-requires c κs = 
+answer-of-requires c κs =
     let s = c .before .before .before .before .before .before .before .before .before .before .before .before in
     let A = c .before .before .before .before .before .before .before .before .before .candidate-at .ensures in
     right-small _ _ _ _ (s .pre .0 .0 .header .horizon .1) (right A (s .pre .0 .0 .said .few) (s .pre .1 .0) (c .reply-to .ensures _ (beside (c .before .before .before .before .before .before .before .before .before .candidate-at .ensures) (s .pre .0 .0 .said .few) (s .pre .1 .0) (c .before .before .before .before .before .put-candidate .ensures .0) (c .before .before .before .before .before .put-candidate .ensures .1 .1 .0) (c .before .before .before .before .before .put-candidate .ensures .1 .1 .1) (c .before .before .before .before .before .put-candidate .ensures .1 .1 .2))))
@@ -36,7 +36,7 @@ element-write-answers c = let s = c .before .before .before .before .before .bef
 
 put-if-placed-requires : tie.Need-put-if-placed-requires
 unfolding activityView headerView
-put-if-placed-requires c κs = 
+put-if-placed-requires c κs =
     let s = c .before .before .before .before .before .before .before .before .before .before .before .before .before .before in
     let A = c .before .before .before .before .before .before .before .before .before .before .before .candidate-at .ensures in
     let few = s .pre .0 .0 .said .few in
@@ -45,16 +45,19 @@ put-if-placed-requires c κs =
     (B .few, A .formed .id, (λ x e. omega (arith, R .placed x e .valid .start, s .pre .0 .0 .header .horizon .1)), s .pre .0 .2 .ticksLong)
 
 returns : tie.Need-returns
-returns c = 
+returns c =
     let s = c .before .before .before .before .before .before .before .before .before .before .before .before .before .before .before in
     let A = c .before .before .before .before .before .before .before .before .before .before .before .before .candidate-at .ensures in
     let few = s .pre .0 .0 .said .few in
     let w = c .before .before .before .before .before .before .before .before .put-candidate .ensures in
     let B = beside (c .before .before .before .before .before .before .before .before .before .before .before .before .candidate-at .ensures) (s .pre .0 .0 .said .few) (s .pre .1 .0) (c .before .before .before .before .before .before .before .before .put-candidate .ensures .0) (c .before .before .before .before .before .before .before .before .put-candidate .ensures .1 .1 .0) (c .before .before .before .before .before .before .before .before .put-candidate .ensures .1 .1 .1) (c .before .before .before .before .before .before .before .before .put-candidate .ensures .1 .1 .2) in
-    let e = c .before .before .before .reply-to .ensures _ B in
-    (record { ticksLong = c .put-if-placed .ensures .0 .1; amountsLong = w .1 .0 .0; settingsLong = w .1 .0 .1; unitsLong = w .1 .0 .2 },
-    (placed-next A few (s .pre .1 .0) e (c .put-if-placed .ensures .0 .0) (c .put-if-placed .ensures .1 _ _ _ _ (w .0) (B .held)),
-    answered-next _ (omega (arith, A .inside)) (s .pre .1 .1) (c .before .before .answer-of .ensures) (outcome-is A few (s .pre .1 .0) e)))
+    let e = c .before .before .before .reply-to .ensures _ B in (
+      record { ticksLong = c .put-if-placed .ensures .0 .1; amountsLong = w .1 .0 .0; settingsLong = w .1 .0 .1; unitsLong = w .1 .0 .2 },
+      (
+        placed-next A few (s .pre .1 .0) e (c .put-if-placed .ensures .0 .0) (c .put-if-placed .ensures .1 _ _ _ _ (w .0) (B .held)),
+        answered-next _ (omega (arith, A .inside)) (s .pre .1 .1) (c .before .before .answer-of .ensures) (outcome-is A few (s .pre .1 .0) e),
+      ),
+    )
 
 pub place-next-spec : {M : Type 1} → statement M
 place-next-spec =
