@@ -9,19 +9,19 @@ use lib.ListN.{length}
 use Rattle.rules.specs.Plan.{Header, Schedule}
 use Rattle.rules.specs.MeetsB.{charge}
 use Rattle.rules.specs.MeetsV.{totalVolume}
-use Rattle.rules.specs.Outcomes.{outcome, finished}
+use Rattle.rules.specs.Outcomes.{placed, outcome, finished}
 use Rattle.rules.specs.Report.{outcomeLine, outcomeLines, endLine, report}
 use Rattle.rules.specs.declared.Outcome.{Outcome}
 use Rattle.rules.specs.declared.Outcome.the-variants.{Placed, Refused}
-use Rattle.plan.specs.View.{headerView, activityView, planView}
-use Rattle.plan.specs.declared.Activity.{Activity as ActivityStruct}
+use Rattle.activity.specs.View.{headerView, activityView}
+use Rattle.activity.specs.declared.Activity.{Activity as ActivityStruct}
+use Rattle.plan.specs.View.{planView}
 use Rattle.plan.specs.declared.Plan.{Plan as PlanStruct}
 use Rattle.plan.proofs.Places.{place-count}
-use Rattle.placed.specs.View.{scheduleView}
-use Rattle.placed.specs.declared.Schedule.{Schedule as ScheduleStruct}
-use Rattle.placed.proofs.Entries.{entries-count}
-use Rattle.schedule.specs.Places.{Placeable, Candidate, PlacedTo}
+use Rattle.placed.proofs.Rows.{rows-map}
+use Rattle.placing.specs.Places.{Placeable, Candidate, PlacedTo}
 use Rattle.report.specs.Lines.{Wrote, outcomeText, endText}
+use Rattle.report.specs.Finished.{RowsSay}
 use Rattle.report.proofs.Writing.{wrote-then, wrote-none}
 
 -- the line of an activity, by its id and duration
@@ -35,13 +35,8 @@ pub end-written : (h : Header) (count n c v : ℕ) (ps : Schedule) → n ≡ len
 unfolding endText endLine
 end-written h count n c v ps e f g old at new r W = rw (← e, ← f, ← g) W
 
--- as many are placed as the count says
-pub schedule-count : (s : ScheduleStruct) → s .count ≡ length (scheduleView s)
-unfolding scheduleView
-schedule-count s = sym (entries-count (s .activities) (s .starts) (s .count))
-
 module _ (s : List ℕ) (p : PlanStruct) (old : List ℕ) where
-  -- the lines of no place, of one place more, and the end line behind them all
+  -- the lines of no place, and of one place more
   pub lines-none : Wrote old 0 (outcomeLines (planView s p) 0) old 0
   unfolding outcomeLines
   lines-none = wrote-none old 0
@@ -52,8 +47,13 @@ module _ (s : List ℕ) (p : PlanStruct) (old : List ℕ) where
     place-more a A o e L =
         rw (add-one, ← A .view, ← e, ← outcome-text a o) (wrote-then old 0 (outcomeLines (planView s p) k) m r W (outcomeText (a .id) (a .duration) o) new next L h)
 
-    pub report-end : Placeable s p → k ≡ p .count → (t : ScheduleStruct) → PlacedTo s p k t → Wrote m r (endLine (headerView (p .header)) (p .count) (scheduleView t)) new next → Wrote old 0 (report (planView s p)) new next
-    unfolding report finished planView
-    report-end G e t S L =
-        let n : length (planView s p .activities) ≡ k = place-count s p (G .said) ∙ sym e in
-        rw (n, ← S .view) (wrote-then old 0 (outcomeLines (planView s p) k) m r W (endLine (headerView (p .header)) k (scheduleView t)) new next (rw (← e) at L) h)
+  -- the end line behind the lines of all places
+  pub report-end : (m : List ℕ) (r : ℕ) → Wrote old 0 (outcomeLines (planView s p) (p .count)) m r → (new : List ℕ) (next : ℕ) → next ≤ length old → Placeable s p
+      → Wrote m r (endLine (headerView (p .header)) (p .count) (placed (planView s p) (p .count))) new next → Wrote old 0 (report (planView s p)) new next
+  unfolding report finished planView
+  report-end m r W new next h G L =
+      rw (place-count s p (G .said)) (wrote-then old 0 (outcomeLines (planView s p) (p .count)) m r W (endLine (headerView (p .header)) (p .count) (placed (planView s p) (p .count))) new next L h)
+
+-- the rows of the places of a plan say what is placed there
+pub rows-say : {s : List ℕ} {p : PlanStruct} {k n : ℕ} {ticks amounts settings units : List ℕ} → PlacedTo s p k n ticks amounts settings units → RowsSay (p .header) ticks amounts n (placed (planView s p) k)
+rows-say {n = n} S = record { rows = rows-map _ _ n _ (λ i e k m r. (r .ticked, r .row .amounted)) (S .held); reached = S .reached }

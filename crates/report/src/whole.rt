@@ -59,7 +59,7 @@ fn put_finished<'a>(
 
 // Writes the report of a plan, whose lines are those of s, and answers its length.
 pub fn put_report(s: &[u8], plan: Plan, out: &mut [u8; REPORT]) -> usize
-    requires { ⌜ Placeable (now s) plan × (length (now out) ≡ reportMost) ⌝ }
+    requires { ⌜ Placeable (now s) plan ⌝ }
     ensures { λ r. ⌜ Wrote (now (out .entry)) 0 (report (planView (now (s .entry)) plan)) (now (out .exit)) r × (r ≤ reportMost) ⌝ }
 {
     let mut answers = [0u16; PLACES];

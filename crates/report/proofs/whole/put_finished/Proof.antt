@@ -1,8 +1,11 @@
 -- `put_finished` meets its contract.
 -- Assumes nothing.
+use mathlib.Core.Path.{sym, _∙_}
+use Rattle.activity.specs.View.{headerView}
+use Rattle.placed.proofs.Rows.{rows-count, rows-map, volumes-are}
+use Rattle.charge.proofs.ConditionB.{charge-kept, charge-last}
+use Rattle.report.proofs.LineByLine.{end-written}
 use borrow.Author.Needs.{needs}
-use Rattle.plan.specs.View.{headerView}
-use Rattle.report.proofs.LineByLine.{schedule-count, end-written}
 use Rattle.report.proofs.whole.put_finished.Statement.{statement}
 use Rattle.report.proofs.whole.put_finished.Tie as tie
 
@@ -10,7 +13,9 @@ sub-refused : tie.Need-sub-refused
 sub-refused c = search needs
 
 last-charge-requires : tie.Need-last-charge-requires
-last-charge-requires c κs = search needs
+last-charge-requires c κs =
+    let F = c .before .pre .0 in
+    ((F .ticksBounded, F .amountsBounded), (F .say .reached .header, charge-kept _ _ _ _ _ (F .say .rows) ∙ F .say .reached .kept .charge))
 
 total-volume-requires : tie.Need-total-volume-requires
 total-volume-requires c κs = search needs
@@ -24,11 +29,13 @@ same-length c = search needs
 returns : tie.Need-returns
 unfolding headerView
 returns c =
-    let line = c .before .before in
-    let volume = line .before .before in
-    let charge = volume .before in
-    let start = charge .before .before .before .before in
-    (end-written _ _ _ _ _ _ (schedule-count (start .args .schedule)) (charge .last-charge .ensures) (volume .total-volume .ensures .0) _ _ _ _ (line .put-end .ensures .0), line .put-end .ensures .1)
+    let s = c .before .before .before .before .before .before .before in (
+      c .before .before .put-end .ensures .1,
+      λ placed R.
+          end-written (headerView (s .args .header)) (s .args .count) (s .args .n) _ _ placed (sym (rows-count _ _ placed (R .rows)))
+          (c .before .before .before .before .before .last-charge .ensures ∙ charge-last _ _ _ _ placed (R .rows))
+          (c .before .before .before .before .total-volume .ensures .0 ∙ volumes-are _ _ placed (rows-map _ _ _ placed (λ i e k m r. r .1) (R .rows))) _ _ _ _ (c .before .before .put-end .ensures .0),
+    )
 
 pub put-finished-spec : {M : Type 1} → statement M
 put-finished-spec =
