@@ -16,7 +16,8 @@ use Rattle.rules.proofs.Accepted.{accepted-formed}
 use Rattle.rules.proofs.ListAt.{at-mem}
 use Rattle.rules.proofs.Order.{order-right, order-length}
 use Rattle.rules.proofs.Ordered.{ordered, order-again}
-use Rattle.plan.specs.View.{PlanSaid, headerView, planView}
+use Rattle.activity.specs.View.{headerView}
+use Rattle.plan.specs.View.{PlanSaid, planView}
 use Rattle.plan.specs.Reading.{inOrder, readingView}
 use Rattle.plan.specs.declared.Plan.{Plan as PlanStruct}
 use Rattle.plan.specs.declared.Reading.{Reading as ReadingStruct}

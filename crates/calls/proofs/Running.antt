@@ -14,20 +14,19 @@ use Rattle.rules.specs.Calls.{countTerms, refusal, full, Filled, sliceAfter, re
 use Rattle.rules.specs.declared.Interval.{Interval}
 use Rattle.rules.specs.declared.CountAnswer.{CountAnswer}
 use Rattle.rules.specs.declared.CountAnswer.the-variants.{Count}
-use Rattle.plan.specs.View.{headerView, activityView, planView}
-use Rattle.plan.specs.declared.Activity.{Activity as ActivityStruct}
+use Rattle.activity.specs.View.{headerView}
+use Rattle.plan.specs.View.{planView}
 use Rattle.plan.specs.declared.Plan.{Plan as PlanStruct}
-use Rattle.placed.specs.Marked.{Table}
-use Rattle.schedule.specs.Places.{Candidate}
+use Rattle.sets.specs.Table.{Table}
 use Rattle.schedule.specs.Search.{meetsIn, column}
 use Rattle.schedule.proofs.Tabled.{table-runs}
 use Rattle.calls.specs.Called.{SliceFilled, ColumnsFilled}
 
 -- the runs in the table of a place are the runs at that place
-pub runs-are : (s : List ℕ) (q : PlanStruct) (k : ℕ) (a : ActivityStruct) → Candidate s q k a → (table : List ℕ) → Table (meets (headerView (q .header)) (placed (planView s q) k) (activityAt (planView s q) k)) (starts (headerView (q .header)) (activityAt (planView s q) k)) table → (m n : ℕ)
-    → n ≡ starts (headerView (q .header)) (activityView a) → runsFrom (meetsIn table m) 0 n ≡ runs (planView s q) k m
+pub runs-are : (s : List ℕ) (q : PlanStruct) (k : ℕ) (table : List ℕ) → Table (meets (headerView (q .header)) (placed (planView s q) k) (activityAt (planView s q) k)) (starts (headerView (q .header)) (activityAt (planView s q) k)) table → (m n : ℕ)
+    → n ≡ starts (headerView (q .header)) (activityAt (planView s q) k) → runsFrom (meetsIn table m) 0 n ≡ runs (planView s q) k m
 unfolding runs planView
-runs-are s q k a A table T m n e = ap (runsFrom (meetsIn table m) 0) (e ∙ ap (starts (headerView (q .header))) (A .view)) ∙ table-runs _ _ table T m
+runs-are s q k table T m n e = ap (runsFrom (meetsIn table m) 0) e ∙ table-runs _ _ table T m
 
 -- a result that the slice is too short for, and one that fits
 pub too-long : {A : Type 0} (room : ℕ) (xs : List A) → room < length xs → filling room xs ≡ refusing 10 0

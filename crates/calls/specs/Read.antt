@@ -10,7 +10,7 @@ use Rattle.rules.proofs.Ordered.{ordered}
 use Rattle.plan.specs.View.{planView}
 use Rattle.plan.specs.declared.Plan.{Plan as PlanStruct}
 use Rattle.plan.specs.declared.Reading.{Reading as ReadingStruct}
-use Rattle.schedule.specs.Places.{Placeable}
+use Rattle.placing.specs.Places.{Placeable}
 
 -- the bytes s are accepted as a plan that the struct q holds in the scheduling order
 pub record AcceptedAs (s : List ℕ) (q : PlanStruct) : Type 0 where

@@ -11,7 +11,7 @@ ghost use Rattle.calls.specs.Read.{ReadAs};
 ghost use Rattle.calls.specs.Called.{OutcomeCalled, SliceFilled, ReportCalled, ColumnsFilled, StartsCalled, OutputCalled};
 use plan::Plan;
 use plan::Reading;
-use report::whole::REPORT;
+pub use report::whole::REPORT;
 use rules::ALL_CONDITIONS;
 use rules::CountAnswer;
 use rules::OutcomeAnswer;

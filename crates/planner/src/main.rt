@@ -1,5 +1,6 @@
 // The planner: a plan on standard input, its report or its `no` line on standard output (document 01, Calls).
 ghost use Rattle.io.specs.Counts.{Counts};
+use calls::REPORT;
 
 // How many bytes of standard input were read, and whether a read failed.
 struct Input {
@@ -38,7 +39,7 @@ fn main() {
         return;
     }
     let n = input.count;
-    let mut out = [0u8; 4608];
+    let mut out = [0u8; REPORT];
     let length = calls::output(&bytes[..n], &mut out);
     if !io::write_all(1, &out[..length]) {
         io::write_all(2, b"planner: standard output cannot be written\n");

@@ -24,6 +24,9 @@ returns-2 c =
     let read = c .before .before .before .before .before .read in
     columns-kept _ _ _ (starts-beyond _ _ (read .ensures .accepted (omega arith)) _ _ _ (omega arith)) _ _ _ (c .refuse2 .ensures)
 
+cast-if3 : tie.Need-cast-if3
+cast-if3 c = search needs
+
 refuse-requires-3 : tie.Need-refuse-requires-3
 refuse-requires-3 c κs = search needs
 
@@ -31,6 +34,9 @@ returns-3 : tie.Need-returns-3
 returns-3 c =
     let read = c .before .before .before .before .before .before .read in
     columns-kept _ _ _ (starts-no-set _ _ (read .ensures .accepted (omega arith)) _ _ _ (omega arith) (omega arith)) _ _ _ (c .refuse3 .ensures)
+
+cast-runs-at : tie.Need-cast-runs-at
+cast-runs-at c = omega arith
 
 runs-at-requires : tie.Need-runs-at-requires
 runs-at-requires c κs = let read = c .before .before .before .before .before .before .before .read in (read .ensures .accepted (omega arith) .placeable, omega arith)
@@ -56,8 +62,10 @@ starts-spec =
     returns
     refuse-requires-2
     returns-2
+    cast-if3
     refuse-requires-3
     returns-3
+    cast-runs-at
     runs-at-requires
     same-length
     same-length-2
