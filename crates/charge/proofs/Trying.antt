@@ -30,8 +30,8 @@ module _ (h : HeaderStruct) (draw : ℕ → ℕ) where
   handed-over k = and-right (each (λ u. leZ (pos (h .floor)) (chargeBy h draw u)) (suc (h .horizon))) _ k
 
   -- the last charge is then a natural number
-  pub last-kept : keptBy h draw ≡ true → pos 0 ≤ℤ chargeBy h draw (h .horizon)
-  last-kept k = let l = le-true (pos (h .floor)) (chargeBy h draw (h .horizon)) (kept-at k (h .horizon) (le-refl _)) in omega signed
+  pub kept-charge : keptBy h draw ≡ true → (t : ℕ) → t ≤ h .horizon → pos 0 ≤ℤ chargeBy h draw t
+  kept-charge k t l = let f = le-true (pos (h .floor)) (chargeBy h draw t) (kept-at k t l) in omega signed
 
   -- a tick under the floor
   not-kept : (t : ℕ) → t ≤ h .horizon → leZ (pos (h .floor)) (chargeBy h draw t) ≡ false → keptBy h draw ≡ false

@@ -6,8 +6,7 @@ mod trial;
 use activity::Header;
 use draws::add_placed;
 use rules::TICKS;
-use run::CHARGES;
-use run::fill_charges;
+use run::run_through;
 use run::step;
 use trial::mark_trials;
 ghost use mathlib.Core.Path.{_≡_};
@@ -58,11 +57,7 @@ pub fn last_charge<'a>(
 {
     let mut draws = [0u32; TICKS];
     add_placed(header, ticks, amounts, n, &mut draws);
-    let mut charge = [0i64; CHARGES];
-    fill_charges(&draws, header, &mut charge);
-    let horizon = header.horizon as usize;
-    let last = charge[horizon];
-    last as u64
+    run_through(&draws, header) as u64
 }
 
 // Refusal 9: whether the charge at the horizon with nothing placed is under the handover charge.

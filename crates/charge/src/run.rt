@@ -8,7 +8,7 @@ ghost use Prim.Native.Nat.{_<_, _≤_};
 ghost use lib.IntN.{pos, negsuc};
 ghost use lib.ListN.{length, getD};
 ghost use lib.Signed.{_≤ℤ_, leZ};
-ghost use Rattle.charge.specs.Charge.{atTick, drawMore, chargeNext, Drawing, Charges, Ran};
+ghost use Rattle.charge.specs.Charge.{atTick, drawMore, chargeNext, chargeBy, Drawing, Charges, Ran};
 
 // The most charges of a plan: at each tick, and at the horizon.
 pub const CHARGES: usize = 4097;
@@ -85,6 +85,19 @@ pub fn run_back(
         }
     }
     t
+}
+
+// The charge at the horizon with the placed alone.
+pub fn run_through(draws: &[u32], header: Header) -> i64
+    requires { ⌜ Drawing (now draws) header ⌝ }
+    ensures { λ r. ⌜ r ≡ chargeBy header (atTick (now (draws .entry))) (header .horizon) ⌝ }
+{
+    let horizon = header.horizon as usize;
+    let mut c = header.first as i64;
+    for t in 0..horizon {
+        c = step(c, header.capacity, header.rate, wide(draws[t]));
+    }
+    c
 }
 
 // Fills in the base, the charge at each tick with the placed alone.
