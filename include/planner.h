@@ -39,7 +39,7 @@ extern "C" {
 #define PLANNER_ACTIVITIES_MOST 64 /* the most activities of a plan */
 #define PLANNER_REPORT_MOST 1568   /* bytes: room enough for every report */
 #define PLANNER_RUNS_MOST 2048     /* records: room enough for every list of runs */
-#define PLANNER_STACK_MOST 420000  /* bytes of stack that are enough for every call */
+#define PLANNER_STACK_MOST 131072  /* bytes of stack that are enough for every call */
 
 /* A run of starts, both bounds included. */
 struct planner_interval {

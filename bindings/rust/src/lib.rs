@@ -64,7 +64,7 @@ pub const REPORT_MOST: usize = 1_568;
 /// Records: room enough for every list of runs.
 pub const RUNS_MOST: usize = 2_048;
 /// Bytes of stack that are enough for every call, whatever the plan; [`starts`] takes 16,384 more for its own list.
-pub const STACK_MOST: usize = 420_000;
+pub const STACK_MOST: usize = 131_072;
 
 /// How an activity is answered.
 ///
