@@ -1,8 +1,7 @@
 -- The specification's value of each struct of the code.
-use Prim.Native.Nat.{ℕ, _<_, _≤_}
-use mathlib.Core.Path.{_≡_}
-use mathlib.Core.List.{List, [], _∷_, map}
-use lib.ListN.{length, getD, take}
+use Prim.Native.Nat.{ℕ, _≤_}
+use mathlib.Core.List.{List, [], _∷_}
+use lib.ListN.{take}
 use Rattle.rules.specs.Plan.{Header, Window, Setting, Activity}
 use Rattle.activity.specs.declared.Header.{Header as HeaderStruct}
 use Rattle.activity.specs.declared.Activity.{Activity as ActivityStruct}

@@ -9,7 +9,7 @@ use native.Mathlib.Numerals.{add-one}
 use lib.Dec.{leb, eqb}
 use lib.ListN.{length, getD, take}
 use borrow.Author.Tests.{le-leb, lt-leb}
-use Rattle.rules.specs.Plan.{Header, Schedule, end}
+use Rattle.rules.specs.Plan.{Header, Schedule}
 use Rattle.rules.specs.Tests.{anyOf, every}
 use Rattle.rules.specs.MeetsD.{endedBy}
 use Rattle.rules.proofs.Cases.{by-order}

@@ -24,7 +24,7 @@ use Rattle.sets.specs.Table.{Marked, Markable}
 use Rattle.sets.proofs.Bits.{bit-is}
 use Rattle.sets.proofs.Marking.{same-marked}
 use Rattle.placed.specs.Tables.{enginesAt, peakAt, drawAt, volumeAt, volumesIn}
-use Rattle.placed.specs.Held.{TicksAt, AmountsAt, SettingsAt, UnitsAt, Rows}
+use Rattle.placed.specs.Held.{TicksAt, AmountsAt, Rows}
 use Rattle.placed.specs.Bounds.{TicksBounded, AmountsBounded, SettingsBounded}
 use Rattle.placed.proofs.Rows.{rows-map, volumes-are}
 use Rattle.placed.proofs.Bounding.{ticks-bounded, amounts-beside, settings-beside}
@@ -35,7 +35,7 @@ use Rattle.state.specs.State.{stateMet}
 use Rattle.state.proofs.StateMeets.{state-meets}
 use Rattle.charge.specs.Charge.{drawnIn, keptBy, keptAt}
 use Rattle.charge.proofs.ConditionB.{charge-kept, charge-meets}
-use Rattle.conditions.specs.Ended.{never, readyFrom}
+use Rattle.conditions.specs.Ended.{readyFrom}
 use Rattle.conditions.specs.Ready.{Beside}
 use Rattle.conditions.proofs.Ended.{ready-is}
 
@@ -73,7 +73,7 @@ module _ (h : HeaderStruct) (a : ActivityStruct) (ticks amounts settings units :
   markable by table b l f = record { few = omega (arith, lasts, count-few); long = l; free = λ k. omega (arith, f k) }
 
   charged : Rows (λ i x. TicksAt (headerView h) ticks i x × AmountsAt amounts i (x .activity)) n placed
-  charged = rows-map _ _ n placed (λ i x k m r. (r .ticked, r .row .amounted)) (B .held)
+  charged = rows-map _ _ n placed (λ i x k m r. (r .ticksSay, r .row .amountsSay)) (B .held)
 
   pub kept-ok : keptBy h (drawnIn h ticks amounts n) ≡ true
   kept-ok = charge-kept h ticks amounts n placed charged ∙ B .reached .kept .charge
@@ -89,31 +89,31 @@ module _ (h : HeaderStruct) (a : ActivityStruct) (ticks amounts settings units :
 
   pub after-are : a .«after_count» ≤ length (a .after) → (s : ℕ) → s < count → leb (readyFrom ticks n (a .after) (a .«after_count»)) s ≡ meets (headerView h) placed (activityView a) 1 s
   unfolding meets conditions meetsD activityView
-  after-are l s k = ready-is (headerView h) ticks n placed (rows-map _ _ n placed (λ i x k m r. r .ticked) (B .held)) (a .after) (a .«after_count») s (omega (arith, count-few)) l
+  after-are l s k = ready-is (headerView h) ticks n placed (rows-map _ _ n placed (λ i x k m r. r .ticksSay) (B .held)) (a .after) (a .«after_count») s (omega (arith, count-few)) l
 
   pub units-are : (s : ℕ) → s < count → clearFor (fits (loadIn ticks (sharing units n) n) 0 0) (a .duration) s ≡ meets (headerView h) placed (activityView a) 2 s
   unfolding meets conditions activityView
-  units-are s k = units-meet (headerView h) ticks units n placed (activityView a) (rows-map _ _ n placed (λ i x k m r. (r .ticked, r .row .united)) (B .held)) (B .row .united) (B .reached) (B .candidate) s (ends s k)
+  units-are s k = units-meet (headerView h) ticks units n placed (activityView a) (rows-map _ _ n placed (λ i x k m r. (r .ticksSay, r .row .unitsSay)) (B .held)) (B .row .unitsSay) (B .reached) (B .candidate) s (ends s k)
 
   pub state-is : (s : ℕ) → s < count → stateMet ticks settings n (a .duration) s ≡ meets (headerView h) placed (activityView a) 3 s
   unfolding meets conditions activityView
-  state-is s k = state-meets (headerView h) ticks settings n placed (activityView a) (rows-map _ _ n placed (λ i x k m r. (r .ticked, r .row .set)) (B .held)) (B .row .set) (B .reached) (B .candidate) s (ends s k)
+  state-is s k = state-meets (headerView h) ticks settings n placed (activityView a) (rows-map _ _ n placed (λ i x k m r. (r .ticksSay, r .row .settingsSay)) (B .held)) (B .row .settingsSay) (B .reached) (B .candidate) s (ends s k)
 
   pub engines-are : (s : ℕ) → s < count → clearFor (fits (loadIn ticks (enginesAt amounts) n) (enginesAt amounts n) (h .engines)) (a .duration) s ≡ meets (headerView h) placed (activityView a) 4 s
   unfolding meets conditions headerView activityView
-  engines-are s k = engines-meet (headerView h) ticks amounts n placed (activityView a) charged (B .row .amounted) (B .reached) (B .candidate) s (ends s k)
+  engines-are s k = engines-meet (headerView h) ticks amounts n placed (activityView a) charged (B .row .amountsSay) (B .reached) (B .candidate) s (ends s k)
 
   pub peaks-are : (s : ℕ) → s < count → clearFor (fits (loadIn ticks (peakAt amounts) n) (peakAt amounts n) (h .peak)) (a .duration) s ≡ meets (headerView h) placed (activityView a) 5 s
   unfolding meets conditions headerView activityView
-  peaks-are s k = peaks-meet (headerView h) ticks amounts n placed (activityView a) charged (B .row .amounted) (B .reached) (B .candidate) s (ends s k)
+  peaks-are s k = peaks-meet (headerView h) ticks amounts n placed (activityView a) charged (B .row .amountsSay) (B .reached) (B .candidate) s (ends s k)
 
   pub charge-is : (s : ℕ) → s < count → keptAt h (drawnIn h ticks amounts n) (a .duration) (drawAt amounts n) (a .warm) s ≡ meets (headerView h) placed (activityView a) 6 s
   unfolding meets conditions activityView
-  charge-is s k = charge-meets h ticks amounts n placed charged (activityView a) (B .row .amounted) s
+  charge-is s k = charge-meets h ticks amounts n placed charged (activityView a) (B .row .amountsSay) s
 
   pub volume-is : (s : ℕ) → s < count → leb (volumeAt amounts n + volumesIn amounts n) (h .volume) ≡ meets (headerView h) placed (activityView a) 7 s
   unfolding meets conditions meetsV volumeKept totalVolume total headerView
-  volume-is s k = rw (B .row .amounted .volume, volumes-are amounts n placed (rows-map _ _ n placed (λ i x k m r. r .row .amounted) (B .held))) refl
+  volume-is s k = rw (B .row .amountsSay .volume, volumes-are amounts n placed (rows-map _ _ n placed (λ i x k m r. r .row .amountsSay) (B .held))) refl
 
   pub warmup-is : (s : ℕ) → s < count → leb (warmupAt (h .minute) s (a .warm)) s ≡ meets (headerView h) placed (activityView a) 8 s
   unfolding meets conditions meetsH warmup headerView activityView

@@ -1,16 +1,16 @@
 -- A row of each table says the activity written into it, and the rows before it remain.
 -- Assumes nothing.
-use Prim.Native.Nat.{ℕ, _+_, _*_, _<_, _≤_}
+use Prim.Native.Nat.{ℕ, _+_, _*_, _<_}
 use mathlib.Core.Path.{_≡_, _∙_}
 use mathlib.Core.List.{List, _∷_}
 use native.Mathlib.Omega.{arith}
-use lib.ListN.{length, getD}
+use lib.ListN.{length}
 use Rattle.rules.specs.Plan.{Header, Entry, Schedule}
 use Rattle.rules.specs.MeetsS.{given}
 use Rattle.activity.specs.View.{Sized, activityView}
 use Rattle.activity.specs.declared.Activity.{Activity as ActivityStruct}
 use Rattle.placed.specs.Written.{SameBelow, Written, firstAt, codeAt}
-use Rattle.placed.specs.Held.{codeOf, TicksAt, AmountsAt, SettingsAt, UnitsAt, CandidateAt, EntryAt, Held}
+use Rattle.placed.specs.Held.{codeOf, TicksAt, SettingsAt, CandidateAt, Held}
 use Rattle.placed.proofs.Given.{variable-is, code-is}
 use Rattle.placed.proofs.Rows.{rows-map, rows-more}
 
@@ -37,29 +37,29 @@ module _ (n i : ℕ) (amounts settings units newAmounts newSettings newUnits : L
   candidate-same : (e : Entry) → CandidateAt amounts settings units i (e .activity) → CandidateAt newAmounts newSettings newUnits i (e .activity)
   candidate-same e r =
       record {
-        amounted =
+        amountsSay =
             record {
-              engines = s _ (omega arith) ∙ r .amounted .engines;
-              peak = s _ (omega arith) ∙ r .amounted .peak;
-              draw = s _ (omega arith) ∙ r .amounted .draw;
-              volume = s _ (omega arith) ∙ r .amounted .volume;
+              engines = s _ (omega arith) ∙ r .amountsSay .engines;
+              peak = s _ (omega arith) ∙ r .amountsSay .peak;
+              draw = s _ (omega arith) ∙ r .amountsSay .draw;
+              volume = s _ (omega arith) ∙ r .amountsSay .volume;
             };
-        set =
+        settingsSay =
             record {
-              sets = λ v l. t _ (omega arith) ∙ r .set .sets v l;
-              needVariables = λ j l. t _ (omega arith) ∙ r .set .needVariables j l;
-              needCodes = λ j l. t _ (omega arith) ∙ r .set .needCodes j l;
+              sets = λ v l. t _ (omega arith) ∙ r .settingsSay .sets v l;
+              needVariables = λ j l. t _ (omega arith) ∙ r .settingsSay .needVariables j l;
+              needCodes = λ j l. t _ (omega arith) ∙ r .settingsSay .needCodes j l;
             };
-        united = λ v l. u _ (omega arith) ∙ r .united v l;
+        unitsSay = λ v l. u _ (omega arith) ∙ r .unitsSay v l;
       }
 
 -- a candidate's row behind those placed
 pub held-beside : (h : Header) (ticks amounts settings units newAmounts newSettings newUnits : List ℕ) (n : ℕ) (placed : Schedule) → SameBelow (n * 4) amounts newAmounts → SameBelow (n * 16) settings newSettings → SameBelow (n * 32) units newUnits → Held h ticks amounts settings units n placed → Held h ticks newAmounts newSettings newUnits n placed
 held-beside h ticks amounts settings units newAmounts newSettings newUnits n placed s t u r =
-    rows-map _ _ n placed (λ i e k m x. record { ticked = x .ticked; row = candidate-same n i amounts settings units newAmounts newSettings newUnits k s t u e (x .row) }) r
+    rows-map _ _ n placed (λ i e k m x. record { ticksSay = x .ticksSay; row = candidate-same n i amounts settings units newAmounts newSettings newUnits k s t u e (x .row) }) r
 
 -- the candidate placed: its ticks are written, too
 pub held-more : (h : Header) (ticks newTicks amounts settings units : List ℕ) (n : ℕ) (e : Entry) (placed : Schedule) → SameBelow (n * 4) ticks newTicks → TicksAt h newTicks n e → CandidateAt amounts settings units n (e .activity) → Held h ticks amounts settings units n placed → Held h newTicks amounts settings units (n + 1) (e ∷ placed)
 held-more h ticks newTicks amounts settings units n e placed s t c r =
-    rows-more _ n e placed (record { ticked = t; row = c })
-    (rows-map _ _ n placed (λ i d k m x. record { ticked = ticks-same h n i ticks newTicks d k s (x .ticked); row = x .row }) r)
+    rows-more _ n e placed (record { ticksSay = t; row = c })
+    (rows-map _ _ n placed (λ i d k m x. record { ticksSay = ticks-same h n i ticks newTicks d k s (x .ticksSay); row = x .row }) r)

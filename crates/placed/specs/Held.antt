@@ -48,13 +48,13 @@ UnitsAt units i a = (u : ℕ) → u < 32 → unitAt units i u ≡ cond (anyOf (e
 
 -- row i, of the candidate, says the activity a
 pub record CandidateAt (amounts settings units : List ℕ) (i : ℕ) (a : Activity) : Type 0 where
-  pub amounted : AmountsAt amounts i a
-  pub set : SettingsAt settings i a
-  pub united : UnitsAt units i a
+  pub amountsSay : AmountsAt amounts i a
+  pub settingsSay : SettingsAt settings i a
+  pub unitsSay : UnitsAt units i a
 
 -- row i of the four tables says the entry e
 pub record EntryAt (h : Header) (ticks amounts settings units : List ℕ) (i : ℕ) (e : Entry) : Type 0 where
-  pub ticked : TicksAt h ticks i e
+  pub ticksSay : TicksAt h ticks i e
   pub row : CandidateAt amounts settings units i (e .activity)
 
 -- what P says of the entries of a schedule by their places, of which there are n

@@ -1,7 +1,7 @@
 -- The report, line by line.
 -- Assumes nothing.
 use Prim.Native.Nat.{ℕ, _+_, _-_, _≤_}
-use mathlib.Core.Path.{_≡_, refl, sym, _∙_}
+use mathlib.Core.Path.{_≡_, refl}
 use mathlib.Core.List.{List}
 use native.Mathlib.Numerals.{add-one}
 use lib.IntN.{pos}
@@ -56,4 +56,4 @@ module _ (s : List ℕ) (p : PlanStruct) (old : List ℕ) where
 
 -- the rows of the places of a plan say what is placed there
 pub rows-say : {s : List ℕ} {p : PlanStruct} {k n : ℕ} {ticks amounts settings units : List ℕ} → PlacedTo s p k n ticks amounts settings units → RowsSay (p .header) ticks amounts n (placed (planView s p) k)
-rows-say {n = n} S = record { rows = rows-map _ _ n _ (λ i e k m r. (r .ticked, r .row .amounted)) (S .held); reached = S .reached }
+rows-say {n = n} S = record { rows = rows-map _ _ n _ (λ i e k m r. (r .ticksSay, r .row .amountsSay)) (S .held); reached = S .reached }

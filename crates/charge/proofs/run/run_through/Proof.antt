@@ -4,7 +4,7 @@ use native.Mathlib.Omega.{arith}
 use Prim.Native.Nat.{_-_, _≤_}
 use mathlib.Core.Path.{_≡_, sym, _∙_}
 use mir.Syntax.{w64}
-use mir.Val.{toZ, ofZ}
+use mir.Val.{toZ}
 use mir.Facts.{toZ-pos, toZ-ofZ}
 use Rattle.rules.proofs.Signed.{signed}
 use Rattle.charge.specs.Charge.{atTick, chargeNext, chargeBy}

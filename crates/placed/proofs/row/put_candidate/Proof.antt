@@ -23,7 +23,7 @@ unfolding activityView
 returns c =
     let w = c .before .before .before .before in
     let v = w .before .before in (
-      record { amounted = v .put-amounts .ensures .2; set = w .put-settings .ensures .2; united = c .put-units .ensures .at },
+      record { amountsSay = v .put-amounts .ensures .2; settingsSay = w .put-settings .ensures .2; unitsSay = c .put-units .ensures .at },
       (
         (v .put-amounts .ensures .0, w .put-settings .ensures .0, c .put-units .ensures .size ∙ v .before .before .pre .1 .2),
         (v .put-amounts .ensures .1, w .put-settings .ensures .1, c .put-units .ensures .before),
