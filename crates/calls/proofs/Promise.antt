@@ -69,7 +69,7 @@ answered s p e =
       beyond = λ k r a h. outcome-terms-differ r (No (callRefusal 11)) (a ∙ rw (e, le-leb _ _ h));
       report = report-answered s _ (D .report);
       printed = printed-as s _ (D .printed);
-      runs = λ k m h l. let R = D .runs k m h l in (R .0, R .1, runs-answered s k m (R .0) (R .2));
+      runs = λ k m h l. let R = D .runs k m h l in (R .0, R .1, R .2, runs-answered s k m (R .0) (R .3));
       noPlace = λ k m h. starts-refused s k m (callRefusal 11) (λ room. rw (e, le-leb _ _ h));
       noSet = λ k m h l. starts-refused s k m (callRefusal 12) (λ room. rw (e, lt-leb _ _ h, lt-ltb _ _ l));
     }

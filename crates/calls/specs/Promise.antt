@@ -52,12 +52,12 @@ pub record Answered (s : List ℕ) (p : Plan) : Type 0 where
   pub report : ReportAnswered s (reportBy p answers)
   pub printed : Printed s (reportBy p answers)
   -- starts gives the runs of starts beside those that the answers place before the place
-  pub runs : (k m : ℕ) → k < length (p .activities) → m ≤ allConditions → (rs : List Interval) × RunsBy p answers k m rs × RunsAnswered s k m rs
+  pub runs : (k m : ℕ) → k < length (p .activities) → m ≤ allConditions → (rs : List Interval) × RunsBy p answers k m rs × (length rs ≤ 2048) × RunsAnswered s k m rs
   -- it refuses a place beyond the last with 11, then a set beyond all conditions with 12
   pub noPlace : (k m : ℕ) → length (p .activities) ≤ k → StartsRefused s k m (callRefusal 11)
   pub noSet : (k m : ℕ) → k < length (p .activities) → allConditions < m → StartsRefused s k m (callRefusal 12)
 
--- what the calls return where the bytes are refused as q: q, and nothing is written; the program prints the `no` line
+-- where the bytes are refused as q: outcome, report and starts return q and write nothing; output, whose bytes the program prints, writes the `no` line
 pub record RefusedAs (s : List ℕ) (q : Refusal) : Type 0 where
   pub outcome : (k : ℕ) (r : OutcomeAnswer) → OutcomeCalled s k r → r ≡ No q
   pub report : (lent after : List ℕ) (r : CountAnswer) → ReportCalled s lent r after → (r ≡ CountNo q) × (after ≡ lent)

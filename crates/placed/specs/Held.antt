@@ -68,7 +68,7 @@ Rows P (suc n) (e ∷ placed) = P n e × Rows P n placed
 abbrev pub Held : Header → List ℕ → List ℕ → List ℕ → List ℕ → ℕ → Schedule → Type 0
 Held h ticks amounts settings units n placed = Rows (EntryAt h ticks amounts settings units) n placed
 
--- a schedule that the planner can have reached
+-- what holds of every schedule that the planner reaches
 pub record Reached (h : Header) (placed : Schedule) : Type 0 where
   pub header : HeaderFormed h
   pub kept : Kept h placed

@@ -6,7 +6,7 @@ use mathlib.Core.List.{List}
 use lib.Dec.{ltb}
 use lib.ListN.{length, getD}
 
--- the elements before k remain
+-- the elements before m remain
 abbrev pub SameBelow : ℕ → List ℕ → List ℕ → Type 0
 SameBelow m old new = (k : ℕ) → k < m → getD new k 0 ≡ getD old k 0
 

@@ -14,7 +14,7 @@ use Rattle.plan.specs.declared.Plan.{Plan as PlanStruct}
 use Rattle.placed.specs.Held.{Held, Reached}
 use Rattle.placing.specs.Answers.{answerIn}
 
--- a plan of the bytes s that was accepted, its lines in the scheduling order
+-- what placing needs of a plan of the bytes s that was accepted, its lines in the scheduling order
 pub record Placeable (s : List ℕ) (p : PlanStruct) : Type 0 where
   pub said : PlanSaid s p
   pub header : HeaderFormed (headerView (p .header))

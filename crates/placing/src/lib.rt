@@ -21,7 +21,7 @@ ghost use Rattle.plan.specs.View.{planView};
 ghost use Rattle.sets.specs.Table.{Table};
 ghost use Rattle.placing.specs.Places.{Placeable, Sized, PlacedTo, AnsweredTo};
 
-// Answers the first k places in order, and answers how many of them are placed: the rows of the tables.
+// Answers the first k places in order, and returns how many of them are placed: the rows of the tables.
 pub fn place_to(
     s: &[u8],
     plan: Plan,
@@ -68,7 +68,7 @@ pub fn outcome_at(s: &[u8], plan: Plan, k: usize) -> Outcome
     outcome_of(answers[k])
 }
 
-// Fills the table of sets of the activity at place k, beside those placed at earlier places, and answers how many starts
+// Fills the table of sets of the activity at place k, beside those placed at earlier places, and returns how many starts
 // it has.
 pub fn fill_at(s: &[u8], plan: Plan, k: usize, table: &mut [u16; TICKS]) -> u32
     requires { ⌜ Placeable (now s) plan × (k < plan .count) ⌝ }

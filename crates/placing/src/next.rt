@@ -60,7 +60,7 @@ fn reply_to<'a>(
     reply_by(&table, count, candidate.preferred)
 }
 
-// Writes the ticks of row n if the candidate is placed, and answers how many rows there are then.
+// Writes the ticks of row n if the candidate is placed, and returns how many rows there are then.
 fn put_if_placed(
     header: Header,
     candidate: Activity,
@@ -79,7 +79,7 @@ fn put_if_placed(
     n + 1
 }
 
-// Answers place k, of the places before which n are placed, and answers how many are placed then.
+// Answers place k, where n of the places before it are placed, and returns how many are placed then.
 pub fn place_next(
     s: &[u8],
     plan: Plan,

@@ -9,10 +9,11 @@ use lib.ListN.{length, getD}
 use borrow.Author.Tests.{lt-leb, le-ltb}
 use Rattle.rules.specs.Plan.{Header, Activity, Plan, Schedule, end as ends}
 use Rattle.rules.specs.Lines.{lines}
-use Rattle.rules.specs.Outcomes.{reply, added, activityAt, placed, outcome, finished}
+use Rattle.rules.specs.Order.{order}
+use Rattle.rules.specs.Outcomes.{noActivity, reply, added, activityAt, placed, outcome, finished}
 use Rattle.rules.specs.Report.{outcomeLine, outcomeLines, endLine, report, answerTo, output}
 use Rattle.rules.specs.Calls.{outcomeOf, outcomeCall, reportOf, reportCall, runs, startsOf, startsCall}
-use Rattle.rules.specs.WellFormed.{WellFormed, Reachable}
+use Rattle.rules.specs.WellFormed.{ActivityFormed, WellFormed, Reachable}
 use Rattle.rules.specs.Demand.{Right, nth, placedBy, linesBy, reportBy, RunsBy, DemandThree}
 use Rattle.rules.specs.declared.Outcome.{Outcome}
 use Rattle.rules.specs.declared.Outcome.the-variants.{Placed, Refused}
@@ -21,6 +22,9 @@ use Rattle.rules.specs.Kept.{Kept}
 use Rattle.rules.proofs.Kept.{none-kept, more-kept}
 use Rattle.rules.proofs.Limits.{limits}
 use Rattle.rules.proofs.Runs.{runs-right}
+use Rattle.rules.proofs.SameRuns.{call-few}
+use Rattle.rules.proofs.Order.{order-right, order-length}
+use Rattle.rules.proofs.ListAt.{at-mem}
 use Rattle.rules.proofs.ReportLines.{line-of-place, lines-behind, lines-count, end-line}
 use Rattle.rules.proofs.Accepted.{accepted-formed}
 
@@ -87,6 +91,14 @@ module _ (p : Plan) where
   last-line =
       ap (λ i. getD (lines (outcomeLines p n ++ end)) i []) (sym (add-zero n)) ∙ lines-behind p n 0 end ∙ ap (λ ls. getD ls 0 []) (end-line (p .header) n (finished p))
 
+-- the activity at a place is well formed
+place-formed : (p : Plan) → WellFormed p → (k : ℕ) → k < length (p .activities) → ActivityFormed (p .header) (activityAt p k)
+unfolding activityAt
+place-formed p F k h =
+    let O = order-right (p .activities) in
+    let l : k < length (order (p .activities)) = rw (order-length (p .activities)) h in
+    rw (O .same k l) (F .each _ (at-mem noActivity (p .activities) (O .line k) (O .known k l)))
+
 -- the runs of a place are those beside what the outcomes place
 runs-by : (p : Plan) (k m : ℕ) → RunsBy p (outcome p) k m (runs p k m)
 unfolding runs
@@ -110,5 +122,5 @@ demand3 s p e =
       called = λ k h. unfold outcomeCall outcomeOf in (rw (e, lt-leb _ _ h));
       report = λ room. unfold reportCall reportOf in (rw (e, ← report-by p));
       printed = unfold output answerTo in (rw (e, ← report-by p));
-      runs = λ k m h l. (runs p k m, runs-by p k m, λ room. unfold startsCall startsOf in (rw (e, lt-leb _ _ h, le-ltb _ _ l)));
+      runs = λ k m h l. (runs p k m, runs-by p k m, call-few p k m (F .0 .header .horizon .1) (place-formed p (F .0) k h .duration .0), λ room. unfold startsCall startsOf in (rw (e, lt-leb _ _ h, le-ltb _ _ l)));
     }

@@ -117,8 +117,8 @@ pub record Demand3 (s : List ℕ) (p : Plan) : Type 0 where
   -- every report written is the answers' own, by the report call and by the program
   pub report : (room : ℕ) → reportCall s room ≡ filling room (reportBy p answers)
   pub printed : output s ≡ reportBy p answers
-  -- every list of runs written by the starts call is of the starts beside these answers
-  pub runs : (k m : ℕ) → k < length (p .activities) → m ≤ allConditions → (rs : List Interval) × RunsBy p answers k m rs × ((room : ℕ) → startsCall s k m room ≡ filling room rs)
+  -- every list of runs written by the starts call is of the starts beside these answers, "at most 2,048" of them (01, Calls)
+  pub runs : (k m : ℕ) → k < length (p .activities) → m ≤ allConditions → (rs : List Interval) × RunsBy p answers k m rs × (length rs ≤ 2048) × ((room : ℕ) → startsCall s k m room ≡ filling room rs)
 
 -- demand 3: "For every plan that document 01 accepts"
 abbrev pub DemandThree : Type 0

@@ -42,7 +42,7 @@ pub data ActivityFault (h : Header) (xs : List Activity) (l : List ℕ) : ℕ �
 abbrev pub Named : Plan → ℕ → Type 0
 Named p n = (k id : ℕ) → k < n → List·Memᴰ id (activityAt p k .after) → (j : ℕ) × (j < k) × (activityAt p j .id ≡ id)
 
--- refusal number k at line n of the file s, which is not too long
+-- refusal number k, but for 1, at line n of the file s
 pub data FileFault (s : List ℕ) : ℕ → ℕ → Type 0 where
   -- "empty file, line 1"
   empty : s ≡ [] → FileFault s 2 1

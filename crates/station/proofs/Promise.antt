@@ -56,7 +56,7 @@ module _ (s : List ℕ) where
         outcome = λ k r x h. unpacking s .outcome k r x .answer ∙ D .called k h;
         beyond = λ k r x h. unpacking s .outcome k r x .answer ∙ rw (e, le-leb _ _ h);
         report = writes (reportCall s) report-unpacked _ (D .report);
-        runs = λ k m h l. let R = D .runs k m h l in (R .0, R .1, writes (startsCall s k m) (starts-unpacked k m) (R .0) (R .2));
+        runs = λ k m h l. let R = D .runs k m h l in (R .0, R .1, R .2, writes (startsCall s k m) (starts-unpacked k m) (R .0) (R .3));
         noPlace = λ k m h. refuses (startsCall s k m) (starts-unpacked k m) 11 0 (λ room. rw (e, le-leb _ _ h));
         noSet = λ k m h l. refuses (startsCall s k m) (starts-unpacked k m) 12 0 (λ room. rw (e, lt-leb _ _ h, lt-ltb _ _ l));
       }

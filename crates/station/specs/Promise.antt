@@ -34,7 +34,7 @@ pub record Answered (s : List ℕ) (p : Plan) : Type 0 where
   -- report writes the report that the answers make
   pub report : Writes (reportCall s) (reportBy p answers)
   -- starts writes the runs of starts beside those that the answers place before the place
-  pub runs : (k m : ℕ) → k < length (p .activities) → m ≤ allConditions → (rs : List Interval) × RunsBy p answers k m rs × Writes (startsCall s k m) rs
+  pub runs : (k m : ℕ) → k < length (p .activities) → m ≤ allConditions → (rs : List Interval) × RunsBy p answers k m rs × (length rs ≤ 2048) × Writes (startsCall s k m) rs
   -- it refuses a place beyond the last with 11, then a set beyond all conditions with 12
   pub noPlace : (k m : ℕ) → length (p .activities) ≤ k → Refuses (startsCall s k m) 11 0
   pub noSet : (k m : ℕ) → k < length (p .activities) → allConditions < m → Refuses (startsCall s k m) 12 0
