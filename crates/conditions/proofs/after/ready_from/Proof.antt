@@ -1,6 +1,6 @@
 -- `ready_from` meets its contract: the invariant is the definition at the ids passed.
 -- Assumes nothing.
-use Prim.Native.Nat.{_-_, _≤_}
+use Prim.Native.Nat.{_-_, _≤_, max}
 use mathlib.Core.Path.{_≡_, sym, _∙_}
 use native.Mathlib.Omega.{arith}
 use Rattle.conditions.specs.Ended.{readyFrom}
@@ -40,8 +40,8 @@ loop-less c = omega arith
 
 loop-again : tie.Need-loop-again Inv-loop μ-loop
 loop-again c =
-    let e = c .before .first-end .ensures in
-    (omega arith, c .larger .ensures ∙ rw (e, c .before .before .before .before .loop .inv .1) (sym (ready-more _ _ _ _)))
+    let ready = c .before .before .before .before .loop .inv .1 in
+    (omega arith, c .larger .ensures ∙ (λ i. max (c .before .first-end .ensures i) (ready i)) ∙ sym (ready-more _ _ _ _))
 
 returns : tie.Need-returns Inv-loop μ-loop
 returns c = let e : c .before .before .args .count ≡ c .before .loop .i = omega arith in rw e (c .before .loop .inv .1)
