@@ -5,13 +5,15 @@ use mathlib.Core.List.{List}
 use lib.ListN.{length, getD}
 use Rattle.rules.specs.Order.{order}
 use Rattle.rules.specs.WellFormed.{HeaderFormed, ActivityFormed, Reachable}
-use Rattle.rules.specs.Outcomes.{activityAt, placed, outcome}
+use Rattle.rules.specs.Conditions.{meets}
+use Rattle.rules.specs.Outcomes.{starts, activityAt, placed, outcome}
 use Rattle.activity.specs.View.{Sized as ActivitySized, headerView, activityView}
 use Rattle.activity.specs.declared.Activity.{Activity as ActivityStruct}
 use Rattle.plan.specs.View.{PlanSaid, planView}
 use Rattle.plan.specs.LineAt.{activityIn}
 use Rattle.plan.specs.declared.Plan.{Plan as PlanStruct}
 use Rattle.placed.specs.Held.{Held, Reached}
+use Rattle.sets.specs.Table.{Table}
 use Rattle.placing.specs.Answers.{answerIn}
 
 -- what placing needs of a plan of the bytes s that was accepted, its lines in the scheduling order
@@ -46,3 +48,8 @@ pub record PlacedTo (s : List ℕ) (p : PlanStruct) (k n : ℕ) (ticks amounts s
 pub record AnsweredTo (s : List ℕ) (p : PlanStruct) (k : ℕ) (answers : List ℕ) : Type 0 where
   pub size : length answers ≡ 64
   pub at : (i : ℕ) → i < k → answerIn (getD answers i 0) ≡ outcome (planView s p) i
+
+-- the table has the sets of conditions that the starts of the activity at place k meet, beside those placed at earlier places
+abbrev pub TableAt : List ℕ → PlanStruct → ℕ → List ℕ → Type 0
+TableAt s p k table =
+    Table (meets (headerView (p .header)) (placed (planView s p) k) (activityAt (planView s p) k)) (starts (headerView (p .header)) (activityAt (planView s p) k)) table

@@ -5,8 +5,7 @@ mod next;
 
 pub use answers::outcome_of;
 pub use next::candidate_at;
-use next::place_next;
-use placed::put_candidate;
+pub use next::place_next;
 use plan::Plan;
 use rules::Outcome;
 use rules::PLACES;
@@ -14,18 +13,17 @@ use rules::TICKS;
 ghost use mathlib.Core.Path.{_≡_};
 ghost use Prim.Native.Nat.{_≤_, _<_};
 ghost use lib.ListN.{length};
-ghost use Rattle.rules.specs.Outcomes.{starts, activityAt, placed, outcome};
-ghost use Rattle.rules.specs.Conditions.{meets};
+ghost use Rattle.rules.specs.Outcomes.{starts, activityAt, outcome};
 ghost use Rattle.activity.specs.View.{headerView};
 ghost use Rattle.plan.specs.View.{planView};
-ghost use Rattle.sets.specs.Table.{Table};
-ghost use Rattle.placing.specs.Places.{Placeable, Sized, PlacedTo, AnsweredTo};
+ghost use Rattle.placing.specs.Places.{Placeable, Sized, PlacedTo, AnsweredTo, TableAt};
 
 // Answers the first k places in order, and returns how many of them are placed: the rows of the tables.
 pub fn place_to(
     s: &[u8],
     plan: Plan,
     k: usize,
+    table: &mut [u16; TICKS],
     answers: &mut [u16; PLACES],
     ticks: &mut [u16; 256],
     amounts: &mut [u32; 256],
@@ -39,7 +37,18 @@ pub fn place_to(
     let mut n = 0;
     let mut i = 0;
     while i < k {
-        n = place_next(s, plan, i, n, answers, ticks, amounts, settings, units);
+        n = place_next(
+            s,
+            plan,
+            i,
+            n,
+            table,
+            answers,
+            ticks,
+            amounts,
+            settings,
+            units,
+        );
         i += 1;
     }
     n
@@ -50,6 +59,7 @@ pub fn outcome_at(s: &[u8], plan: Plan, k: usize) -> Outcome
     requires { ⌜ Placeable (now s) plan × (k < plan .count) ⌝ }
     ensures { λ r. ⌜ r ≡ outcome (planView (now (s .entry)) plan) k ⌝ }
 {
+    let mut table = [0u16; TICKS];
     let mut answers = [0u16; PLACES];
     let mut ticks = [0u16; 256];
     let mut amounts = [0u32; 256];
@@ -59,6 +69,7 @@ pub fn outcome_at(s: &[u8], plan: Plan, k: usize) -> Outcome
         s,
         plan,
         k + 1,
+        &mut table,
         &mut answers,
         &mut ticks,
         &mut amounts,
@@ -68,12 +79,21 @@ pub fn outcome_at(s: &[u8], plan: Plan, k: usize) -> Outcome
     outcome_of(answers[k])
 }
 
+// How many starts the activity at place k has.
+pub fn start_count_at(s: &[u8], plan: Plan, k: usize) -> u32
+    requires { ⌜ Placeable (now s) plan × (k < plan .count) ⌝ }
+    ensures { λ r. ⌜ (r ≡ starts (headerView (plan .header)) (activityAt (planView (now (s .entry)) plan) k)) × (r ≤ 4096) ⌝ }
+{
+    let candidate = candidate_at(s, plan, k);
+    conditions::start_count(plan.header, candidate)
+}
+
 // Fills the table of sets of the activity at place k, beside those placed at earlier places, and returns how many starts
 // it has.
 pub fn fill_at(s: &[u8], plan: Plan, k: usize, table: &mut [u16; TICKS]) -> u32
     requires { ⌜ Placeable (now s) plan × (k < plan .count) ⌝ }
     ensures { λ r. ⌜ (r ≡ starts (headerView (plan .header)) (activityAt (planView (now (s .entry)) plan) k)) × (r ≤ 4096) ⌝ }
-    ensures { λ _. ⌜ Table (meets (headerView (plan .header)) (placed (planView (now (s .entry)) plan) k) (activityAt (planView (now (s .entry)) plan) k)) (starts (headerView (plan .header)) (activityAt (planView (now (s .entry)) plan) k)) (now (table .exit)) ⌝ }
+    ensures { λ _. ⌜ TableAt (now (s .entry)) plan k (now (table .exit)) ⌝ }
 {
     let mut answers = [0u16; PLACES];
     let mut ticks = [0u16; 256];
@@ -84,24 +104,24 @@ pub fn fill_at(s: &[u8], plan: Plan, k: usize, table: &mut [u16; TICKS]) -> u32
         s,
         plan,
         k,
+        table,
         &mut answers,
         &mut ticks,
         &mut amounts,
         &mut settings,
         &mut units,
     );
-    let header = plan.header;
-    let candidate = candidate_at(s, plan, k);
-    put_candidate(candidate, n, &mut amounts, &mut settings, &mut units);
-    conditions::fill(
-        header,
-        candidate,
-        &ticks,
-        &amounts,
-        &settings,
-        &units,
+    place_next(
+        s,
+        plan,
+        k,
         n,
         table,
+        &mut answers,
+        &mut ticks,
+        &mut amounts,
+        &mut settings,
+        &mut units,
     );
-    conditions::start_count(header, candidate)
+    start_count_at(s, plan, k)
 }

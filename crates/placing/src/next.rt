@@ -15,12 +15,14 @@ ghost use mathlib.Core.List.{List};
 ghost use Prim.Native.Nat.{ℕ, _+_, _≤_, _<_};
 ghost use lib.ListN.{length};
 ghost use Rattle.rules.specs.Plan.{Schedule};
-ghost use Rattle.rules.specs.Outcomes.{reply, added};
+ghost use Rattle.rules.specs.Conditions.{meets};
+ghost use Rattle.rules.specs.Outcomes.{starts, reply, added};
 ghost use Rattle.rules.specs.declared.Outcome.the-variants.{Placed};
 ghost use Rattle.activity.specs.View.{headerView, activityView};
+ghost use Rattle.sets.specs.Table.{Table};
 ghost use Rattle.placed.specs.Held.{CandidateAt, Held};
 ghost use Rattle.conditions.specs.Ready.{Beside, Ready};
-ghost use Rattle.placing.specs.Places.{Placeable, Candidate, Sized, PlacedTo, AnsweredTo};
+ghost use Rattle.placing.specs.Places.{Placeable, Candidate, Sized, PlacedTo, AnsweredTo, TableAt};
 
 // The activity at place k of a plan, whose lines are those of s.
 pub fn candidate_at(s: &[u8], plan: Plan, k: usize) -> Activity
@@ -32,7 +34,7 @@ pub fn candidate_at(s: &[u8], plan: Plan, k: usize) -> Activity
     activity_at(s, lines[k], header)
 }
 
-// The candidate of row n answered beside those placed.
+// The candidate of row n answered beside those placed, by its table of sets, which is filled.
 fn reply_to<'a>(
     header: Header,
     candidate: Activity,
@@ -41,23 +43,15 @@ fn reply_to<'a>(
     settings: &'a [u16; 1024],
     units: &'a [u8; 2048],
     n: usize,
+    table: &mut [u16; TICKS],
 ) -> Outcome
     requires { ⌜ Ready header candidate (now ticks) (now amounts) (now settings) (now units) n ⌝ }
     ensures { λ r. ⌜ ((placed : Schedule) → Beside header candidate (now (ticks .entry)) (now (amounts .entry)) (now (settings .entry)) (now (units .entry)) n placed → r ≡ reply (headerView header) placed (activityView candidate)) ⌝ }
+    ensures { λ _. ⌜ ((placed : Schedule) → Beside header candidate (now (ticks .entry)) (now (amounts .entry)) (now (settings .entry)) (now (units .entry)) n placed → Table (meets (headerView header) placed (activityView candidate)) (starts (headerView header) (activityView candidate)) (now (table .exit))) ⌝ }
 {
-    let mut table = [0u16; TICKS];
-    conditions::fill(
-        header,
-        candidate,
-        ticks,
-        amounts,
-        settings,
-        units,
-        n,
-        &mut table,
-    );
+    conditions::fill(header, candidate, ticks, amounts, settings, units, n, table);
     let count = conditions::start_count(header, candidate);
-    reply_by(&table, count, candidate.preferred)
+    reply_by(table, count, candidate.preferred)
 }
 
 // Writes the ticks of row n if the candidate is placed, and returns how many rows there are then.
@@ -79,12 +73,13 @@ fn put_if_placed(
     n + 1
 }
 
-// Answers place k, where n of the places before it are placed, and returns how many are placed then.
+// Answers place k, where n of the places before it are placed, and returns how many are placed then; the table is the place's.
 pub fn place_next(
     s: &[u8],
     plan: Plan,
     k: usize,
     n: usize,
+    table: &mut [u16; TICKS],
     answers: &mut [u16; PLACES],
     ticks: &mut [u16; 256],
     amounts: &mut [u32; 256],
@@ -95,11 +90,12 @@ pub fn place_next(
     requires { ⌜ PlacedTo (now s) plan k n (now ticks) (now amounts) (now settings) (now units) × AnsweredTo (now s) plan k (now answers) ⌝ }
     ensures { λ r. ⌜ Sized (now (ticks .exit)) (now (amounts .exit)) (now (settings .exit)) (now (units .exit)) ⌝ }
     ensures { λ r. ⌜ PlacedTo (now (s .entry)) plan (k + 1) r (now (ticks .exit)) (now (amounts .exit)) (now (settings .exit)) (now (units .exit)) × AnsweredTo (now (s .entry)) plan (k + 1) (now (answers .exit)) ⌝ }
+    ensures { λ _. ⌜ TableAt (now (s .entry)) plan k (now (table .exit)) ⌝ }
 {
     let header = plan.header;
     let candidate = candidate_at(s, plan, k);
     put_candidate(candidate, n, amounts, settings, units);
-    let outcome = reply_to(header, candidate, ticks, amounts, settings, units, n);
+    let outcome = reply_to(header, candidate, ticks, amounts, settings, units, n, table);
     answers[k] = answer_of(outcome);
     put_if_placed(header, candidate, outcome, n, ticks)
 }

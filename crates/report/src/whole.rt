@@ -15,6 +15,7 @@ use placing::outcome_of;
 use placing::place_to;
 use plan::Plan;
 use rules::PLACES;
+use rules::TICKS;
 
 // The room that a report is given: for a line of each place and the end line, by the bounds of a line.
 pub const REPORT: usize = 4608;
@@ -61,6 +62,7 @@ pub fn put_report(s: &[u8], plan: Plan, out: &mut [u8; REPORT]) -> usize
     requires { ⌜ Placeable (now s) plan ⌝ }
     ensures { λ r. ⌜ Wrote (now (out .entry)) 0 (report (planView (now (s .entry)) plan)) (now (out .exit)) r × (r ≤ reportMost) ⌝ }
 {
+    let mut table = [0u16; TICKS];
     let mut answers = [0u16; PLACES];
     let mut ticks = [0u16; 256];
     let mut amounts = [0u32; 256];
@@ -71,6 +73,7 @@ pub fn put_report(s: &[u8], plan: Plan, out: &mut [u8; REPORT]) -> usize
         s,
         plan,
         count,
+        &mut table,
         &mut answers,
         &mut ticks,
         &mut amounts,

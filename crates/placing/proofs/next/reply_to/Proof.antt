@@ -20,7 +20,8 @@ reply-by-requires c κs = let R = c .before .before .before .before .pre in (c .
 
 returns : tie.Need-returns
 unfolding reply distance toPreferred activityView
-returns c = λ placed B. c .reply-by .ensures ∙ rw (c .before .before .start-count .ensures .0) (table-answer _ _ _ (c .before .before .before .fill .ensures placed B) (toPreferred (c .before .before .before .before .before .args .candidate .preferred)))
+returns c =
+    ((λ placed B. c .reply-by .ensures ∙ rw (c .before .before .start-count .ensures .0) (table-answer _ _ _ (c .before .before .before .fill .ensures placed B) (toPreferred (c .before .before .before .before .before .args .candidate .preferred)))), c .before .before .before .fill .ensures)
 
 pub reply-to-spec : {M : Type 1} → statement M
 reply-to-spec = tie.close (tie.spec fill-requires start-count-requires reply-by-requires returns)

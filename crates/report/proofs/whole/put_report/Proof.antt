@@ -18,7 +18,7 @@ put-lines-requires c κs = search needs
 put-finished-requires : tie.Need-put-finished-requires
 put-finished-requires c κs =
     let S = c .before .before .before .before .before .before .before .place-to .ensures .0 in
-    let few = c .before .before .before .before .before .before .before .before .before .before .before .before .before .before .pre .said .few in (
+    let few = c .before .before .before .before .before .before .before .before .before .before .before .before .before .before .before .pre .said .few in (
       record {
         ticksBounded = ticks-bounded _ _ _ _ _ _ _ (S .held) (S .reached) (omega (arith, S .few));
         amountsBounded = amounts-bounded _ _ _ _ _ _ _ (S .held) (S .reached);
@@ -32,7 +32,7 @@ put-finished-requires c κs =
 returns : tie.Need-returns
 returns c =
     let S = c .before .before .before .before .before .before .before .before .place-to .ensures .0 in
-    let s = c .before .before .before .before .before .before .before .before .before .before .before .before .before .before .before in
+    let s = c .before .before .before .before .before .before .before .before .before .before .before .before .before .before .before .before in
     let end = c .put-finished .ensures in
     let few : c .put-finished .result ≤ length (s .args .out .now) = omega (arith, s .pre .said .few, end .0, c .before .before .before .before .before .put-lines .ensures .1, c .before .put-finished-arg .given) in
     (report-end _ _ _ _ _ (c .before .before .before .before .before .put-lines .ensures .0) _ _ few (s .pre) (end .1 _ (rows-say S)), omega (arith, s .pre .said .few, end .0, c .before .before .before .before .before .put-lines .ensures .1))
