@@ -1,0 +1,146 @@
+-- What a plan file is explained as: the text of its refusal, or of its places.
+use Prim.Native.Nat.{ℕ, zero, suc}
+use mathlib.Core.Bool.{Bool, true, false, cond}
+use mathlib.Core.List.{List, [], _∷_, _++_}
+use lib.Dec.{eqb}
+use lib.ListN.{length}
+use Rattle.rules.specs.Bytes.{bytes}
+use Rattle.rules.specs.Number.{decimal}
+use Rattle.rules.specs.Lines.{fields, field}
+use Rattle.rules.specs.Fields.{Read, value, fault, numberField, listField, numbers, windowKind, settingKind}
+use Rattle.rules.specs.Faults.{lineAt}
+use Rattle.rules.specs.Reading.{Reading, accepted, refused, reading}
+use Rattle.rules.specs.declared.Refusal.{Refusal}
+use Rattle.explanation.specs.Words.{refusalWords, planLineWords, actLineWords, planFieldWords, actFieldWords}
+use Rattle.explanation.specs.Shown.{shown}
+use Rattle.explanation.specs.Places.{together, acceptedText}
+
+-- whether a field is read as a value
+unfoldable pub isRead : {A : Type 0} → Read A → Bool
+isRead (value x) = true
+isRead (fault k) = false
+
+-- the number that is read, or 0
+unfoldable pub readNumber : Read ℕ → ℕ
+readNumber (value x) = x
+readNumber (fault k) = 0
+
+-- the fields behind the first word of a plan's first line, left to right: whether each is right
+unfoldable pub planFields : List (List ℕ) → List Bool
+planFields fs =
+    let capacity = readNumber (numberField 1 1000000000 (field fs 3)) in
+    let floor = readNumber (numberField 0 capacity (field fs 4)) in
+    isRead (numberField 1 4096 (field fs 1))
+    ∷ isRead (numberField 0 1439 (field fs 2))
+    ∷ isRead (numberField 1 1000000000 (field fs 3))
+    ∷ isRead (numberField 0 capacity (field fs 4))
+    ∷ isRead (numberField floor capacity (field fs 5))
+    ∷ isRead (numberField 0 1000000 (field fs 6))
+    ∷ isRead (numberField 0 capacity (field fs 7))
+    ∷ isRead (numberField 0 64 (field fs 8))
+    ∷ isRead (numberField 0 1000000 (field fs 9))
+    ∷ isRead (numberField 0 1000000000 (field fs 10))
+    ∷ isRead (numberField 0 1000000 (field fs 11))
+    ∷ []
+
+-- those of an activity's line, in a plan of this horizon
+unfoldable pub actFields : ℕ → List (List ℕ) → List Bool
+actFields horizon fs =
+    isRead (numberField 0 65535 (field fs 1))
+    ∷ isRead (numberField 0 65535 (field fs 2))
+    ∷ isRead (numberField 1 horizon (field fs 3))
+    ∷ isRead (numberField 0 4095 (field fs 4))
+    ∷ isRead (listField windowKind (field fs 5))
+    ∷ isRead (listField (numbers 65535 8) (field fs 6))
+    ∷ isRead (listField (numbers 31 32) (field fs 7))
+    ∷ isRead (listField settingKind (field fs 8))
+    ∷ isRead (listField settingKind (field fs 9))
+    ∷ isRead (numberField 0 64 (field fs 10))
+    ∷ isRead (numberField 0 1000000 (field fs 11))
+    ∷ isRead (numberField 0 1000000 (field fs 12))
+    ∷ isRead (numberField 0 1000000000 (field fs 13))
+    ∷ isRead (numberField 0 1 (field fs 14))
+    ∷ []
+
+-- the number of the first field that is wrong, where the first of these has number i; 0 where none is
+unfoldable pub firstWrong : ℕ → List Bool → ℕ
+firstWrong i [] = 0
+firstWrong i (right ∷ rest) = cond right (firstWrong (suc i) rest) i
+
+-- the horizon that the first line says
+unfoldable pub horizonOf : List ℕ → ℕ
+horizonOf s = readNumber (numberField 1 4096 (field (fields (lineAt s 1)) 1))
+
+-- the field that draws 3, 4 or 8 on line n
+unfoldable pub wrongField : List ℕ → ℕ → ℕ
+wrongField s n =
+    let fs = fields (lineAt s n) in
+    cond (eqb n 1) (firstWrong 1 (planFields fs)) (firstWrong 1 (actFields (horizonOf s) fs))
+
+-- the field that a refusal is about, or 0: 6 is about the id, 7 about after
+unfoldable pub fieldOf : List ℕ → Refusal → ℕ
+fieldOf s r =
+    cond (eqb (r .number) 2) 0
+    (cond (eqb (r .number) 5) 0
+    (cond (eqb (r .number) 6) 1
+    (cond (eqb (r .number) 7) 6
+    (wrongField s (r .line)))))
+
+-- what line n must be
+unfoldable pub lineWords : ℕ → List ℕ
+lineWords n = cond (eqb n 1) planLineWords actLineWords
+
+-- what field i of line n must be
+unfoldable pub fieldWords : ℕ → ℕ → List ℕ
+fieldWords n i = cond (eqb n 1) (planFieldWords i) (actFieldWords i)
+
+-- line n as it is read
+unfoldable pub lineText : List ℕ → ℕ → List ℕ
+lineText s n =
+    together (
+    bytes "line "
+    ∷ decimal n
+    ∷ bytes ": "
+    ∷ shown (lineAt s n)
+    ∷ bytes "\nfields: "
+    ∷ decimal (length (fields (lineAt s n)))
+    ∷ bytes "\n"
+    ∷ [])
+
+-- field i of line n, and what it must be; where i is 0, what the line must be
+unfoldable pub fieldText : List ℕ → ℕ → ℕ → List ℕ
+fieldText s n zero = together (bytes "must be: " ∷ lineWords n ∷ bytes "\n" ∷ [])
+fieldText s n (suc i) =
+    together (
+    bytes "field "
+    ∷ decimal (suc i)
+    ∷ bytes ": "
+    ∷ shown (field (fields (lineAt s n)) (suc i))
+    ∷ bytes "\nmust be: "
+    ∷ fieldWords n (suc i)
+    ∷ bytes "\n"
+    ∷ [])
+
+-- 1 and 9 are about no line
+unfoldable pub placeOfRefusal : List ℕ → Refusal → List ℕ
+placeOfRefusal s r = cond (eqb (r .line) 0) [] (lineText s (r .line) ++ fieldText s (r .line) (fieldOf s r))
+
+unfoldable pub refusedText : List ℕ → Refusal → List ℕ
+refusedText s r =
+    together (
+    bytes "refused "
+    ∷ decimal (r .number)
+    ∷ bytes " at line "
+    ∷ decimal (r .line)
+    ∷ bytes ": "
+    ∷ refusalWords (r .number)
+    ∷ bytes "\n"
+    ∷ placeOfRefusal s r
+    ∷ [])
+
+unfoldable pub explainedAs : List ℕ → Reading → List ℕ
+explainedAs s (accepted p) = acceptedText p
+explainedAs s (refused r) = refusedText s r
+
+unfoldable pub explained : List ℕ → List ℕ
+explained s = explainedAs s (reading s)

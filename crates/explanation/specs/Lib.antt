@@ -1,0 +1,5 @@
+pub mod Words
+pub mod Shown
+pub mod Places
+pub mod Explained
+pub mod Writing
