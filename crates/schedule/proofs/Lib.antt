@@ -6,3 +6,4 @@ pub mod Common
 pub mod Agree
 pub mod Reply
 pub mod Tabled
+pub mod NextRuns

@@ -32,7 +32,7 @@ alone s [] f = refl
 alone s (r ∷ rs) f = rw (ne-eqb (r .first) (suc s) (λ e. omega arith))
 
 -- put before a run that begins at the next start, it lengthens that
-joined : (s l : ℕ) (rs : List Interval) → withStart s (run (suc s) l ∷ rs) ≡ run s l ∷ rs
+pub joined : (s l : ℕ) (rs : List Interval) → withStart s (run (suc s) l ∷ rs) ≡ run s l ∷ rs
 unfolding withStart
 joined s l rs = rw (eq-eqb (suc s) (suc s) refl)
 

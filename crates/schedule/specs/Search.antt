@@ -1,5 +1,6 @@
 -- What is searched for in a table of sets, one for each start.
-use Prim.Native.Nat.{ℕ, zero, suc}
+use Prim.Native.Nat.{ℕ, zero, suc, _<_, _≤_}
+use mathlib.Core.Path.{_≡_}
 use mathlib.Core.Bool.{Bool, false, cond, not, _||_, _&&_}
 use mathlib.Core.List.{List}
 use lib.ListN.{getD}
@@ -27,3 +28,10 @@ column first r = cond first (r .first) (r .last)
 -- a start is written into the firsts where it passes, into the lasts where it passes and the next one doesn't
 unfoldable pub writes : Bool → Bool → Bool → Bool
 writes first passes next = passes && (first || not next)
+
+-- r is the first of the starts from `from` to before `count` whose test is `met`, or `count`
+pub record Next (pass : ℕ → Bool) (met : Bool) (from count r : ℕ) : Type 0 where
+  pub least : from ≤ r
+  pub most : r ≤ count
+  pub before : (s : ℕ) → from ≤ s → s < r → pass s ≡ not met
+  pub here : r < count → pass r ≡ met

@@ -6,7 +6,24 @@ ghost use Prim.Native.Nat.{_-_, _≤_, _<_};
 ghost use lib.ListN.{length, set};
 ghost use Rattle.rules.specs.Runs.{runsFrom};
 ghost use Rattle.rules.specs.Calls.{sliceAfter};
-ghost use Rattle.schedule.specs.Search.{meetsIn, writes, column};
+ghost use Rattle.schedule.specs.Search.{Next, meetsIn, writes, column};
+
+// The first start from `from` on, of the first `count`, that meets the set if `met`, or that does not meet it otherwise;
+// `count` where there is none.
+pub fn next_start(table: &[u16], from: u32, count: u32, set: u16, met: bool) -> u32
+    requires { ⌜ (from ≤ count) × (count ≤ length (now table)) ⌝ }
+    ensures { λ r. ⌜ Next (meetsIn (now (table .entry)) set) met from count r ⌝ }
+{
+    let mut s = from;
+    while s < count {
+        let at = s as usize;
+        if sets::contains(table[at], set) == met {
+            return s;
+        }
+        s += 1;
+    }
+    s
+}
 
 // 1 where a run ends at this start: it passes and the next start does not.
 fn ends_run(passes: bool, next: bool) -> usize
