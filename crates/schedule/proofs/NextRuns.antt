@@ -9,7 +9,7 @@ use Rattle.rules.specs.Runs.{runsFrom}
 use Rattle.rules.specs.declared.Interval.{Interval}
 use Rattle.rules.proofs.Tests.{both-ways}
 use Rattle.schedule.specs.Search.{begins, Next}
-use Rattle.schedule.proofs.RunSteps.{run, joined, step-skip, step-new}
+use Rattle.schedule.proofs.RunSteps.{run, joined, headed, step-skip, step-new}
 
 -- two tests that agree, and two that don't
 pub agree : (b c : Bool) → Bool·beq b c ≡ true → b ≡ c
@@ -65,6 +65,16 @@ module _ (pass : ℕ → Bool) (count : ℕ) where
         let e : from + k ≡ count = omega (arith, N .least) in
         let z : count - count ≡ 0 = omega arith in
         skip-to k from (omega arith) (λ i a b. N .before i a (omega arith)) ∙ rw (e, z)
+
+    -- a start that passes
+    pub some-runs : (first : ℕ) → Next pass true from count first → first < count → (r : Interval) × (rs : List Interval) × (runsOn from ≡ r ∷ rs)
+    unfolding runsFrom
+    some-runs first F h =
+        let k : ℕ = first - from in
+        let e : from + k ≡ first = omega (arith, F .least) in
+        let d : count - first ≡ suc (count - suc first) = omega arith in
+        let q = headed first (runsOn (suc first)) in
+        (run first (q .0), q .1, skip-to k from (omega (arith, F .most)) (λ i a b. F .before i a (omega arith)) ∙ rw (e, d, F .here h) (q .2))
 
     -- from the first start that passes to before the next that doesn't
     pub next-run : (first end : ℕ) → Next pass true from count first → first < count → Next pass false first count end → (first < end) × (runsOn from ≡ run first (end - 1) ∷ runsOn end)

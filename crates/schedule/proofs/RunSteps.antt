@@ -37,7 +37,7 @@ unfolding withStart
 joined s l rs = rw (eq-eqb (suc s) (suc s) refl)
 
 -- put before runs, it is the first of the first run
-headed : (s : ℕ) (rs : List Interval) → (l : ℕ) × (qs : List Interval) × (withStart s rs ≡ run s l ∷ qs)
+pub headed : (s : ℕ) (rs : List Interval) → (l : ℕ) × (qs : List Interval) × (withStart s rs ≡ run s l ∷ qs)
 unfolding withStart
 headed s [] = (s, [], refl)
 headed s (r ∷ rs) = go (eqb (r .first) (suc s))

@@ -1,0 +1,49 @@
+// The runs of starts that meet a set of conditions.
+ghost use Prim.Native.Nat.{_≤_};
+ghost use Rattle.rules.specs.Runs.{runsFrom};
+ghost use Rattle.schedule.specs.Search.{meetsIn};
+ghost use Rattle.explanation.specs.Places.{runText, runTexts, runsText};
+ghost use Rattle.explanation.specs.Writing.{Wrote};
+use crate::writing::Cursor;
+use crate::writing::put_number;
+use crate::writing::put_word;
+use rules::TICKS;
+use schedule::runs::next_start;
+
+// Writes a run of starts.
+fn put_run(out: &mut [u8], c: Cursor, first: u32, last: u32) -> Cursor
+    ensures { λ r. ⌜ Wrote (runText (record { first = first; last = last })) c (now (out .entry)) r (now (out .exit)) ⌝ }
+{
+    let a = put_word(out, c, b" ");
+    let b = put_number(out, a, first as u64);
+    let d = put_word(out, b, b"-");
+    put_number(out, d, last as u64)
+}
+
+// Writes the runs of starts that meet the set, of the first `count` starts of the table.
+fn put_each_run(out: &mut [u8], c: Cursor, table: &[u16; TICKS], count: u32, set: u16) -> Cursor
+    requires { ⌜ count ≤ 4096 ⌝ }
+    ensures { λ r. ⌜ Wrote (runTexts (runsFrom (meetsIn (now (table .entry)) set) 0 count)) c (now (out .entry)) r (now (out .exit)) ⌝ }
+{
+    let mut next = c;
+    let mut s = 0;
+    loop {
+        let first = next_start(table, s, count, set, true);
+        if first == count {
+            return next;
+        }
+        s = next_start(table, first, count, set, false);
+        next = put_run(out, next, first, s - 1);
+    }
+}
+
+// Writes the runs of starts that meet the set, or that there is none.
+pub fn put_runs(out: &mut [u8], c: Cursor, table: &[u16; TICKS], count: u32, set: u16) -> Cursor
+    requires { ⌜ count ≤ 4096 ⌝ }
+    ensures { λ r. ⌜ Wrote (runsText (runsFrom (meetsIn (now (table .entry)) set) 0 count)) c (now (out .entry)) r (now (out .exit)) ⌝ }
+{
+    if next_start(table, 0, count, set, true) == count {
+        return put_word(out, c, b" none");
+    }
+    put_each_run(out, c, table, count, set)
+}
