@@ -1,3 +1,5 @@
 pub mod Pieces
 pub mod Escapes
 pub mod RunTexts
+pub mod LetterTexts
+pub mod Answered

@@ -3,3 +3,4 @@ pub mod Shown
 pub mod Places
 pub mod Explained
 pub mod Writing
+pub mod Tabled

@@ -32,21 +32,23 @@ unfoldable pub runsText : List Interval → List ℕ
 runsText [] = bytes " none"
 runsText (r ∷ rs) = runTexts (r ∷ rs)
 
+-- a line of runs behind these words
+unfoldable pub runsLine : List ℕ → List Interval → List ℕ
+runsLine words rs = together (words ∷ runsText rs ∷ bytes "\n" ∷ [])
+
+-- a letter and what it asks
+unfoldable pub letterLine : ℕ → List ℕ
+letterLine c = together (bytes "  " ∷ (getD conditionLetters c 0 ∷ []) ∷ bytes ": " ∷ conditionWords c ∷ bytes "\n" ∷ [])
+
 -- the runs of starts that meet a set of conditions are given by the set
 module _ (runsOf : ℕ → List Interval) where
   -- letter c of the refusal m: what it asks, and the starts that meet the rest, first of the letters, then of all conditions
   unfoldable pub letterText : ℕ → ℕ → List ℕ
   letterText m c =
       together (
-      bytes "  "
-      ∷ (getD conditionLetters c 0 ∷ [])
-      ∷ bytes ": "
-      ∷ conditionWords c
-      ∷ bytes "\n    starts that meet the other letters:"
-      ∷ runsText (runsOf (m - 2 ^ c))
-      ∷ bytes "\n    starts that meet all other conditions:"
-      ∷ runsText (runsOf (allConditions - 2 ^ c))
-      ∷ bytes "\n"
+      letterLine c
+      ∷ runsLine (bytes "    starts that meet the other letters:") (runsOf (m - 2 ^ c))
+      ∷ runsLine (bytes "    starts that meet all other conditions:") (runsOf (allConditions - 2 ^ c))
       ∷ [])
 
   -- the letters of m among the first n
@@ -61,9 +63,8 @@ module _ (runsOf : ℕ → List Interval) where
       ∷ decimal s
       ∷ bytes " to "
       ∷ decimal (end (at a s))
-      ∷ bytes "\n  valid starts:"
-      ∷ runsText (runsOf allConditions)
       ∷ bytes "\n"
+      ∷ runsLine (bytes "  valid starts:") (runsOf allConditions)
       ∷ [])
   outcomeText a (Refused m) = together (bytes "refused " ∷ lettersOf m ∷ bytes "\n" ∷ letterTexts m conditionCount ∷ [])
 

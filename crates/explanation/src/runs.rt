@@ -1,8 +1,7 @@
 // The runs of starts that meet a set of conditions.
 ghost use Prim.Native.Nat.{_≤_};
-ghost use Rattle.rules.specs.Runs.{runsFrom};
-ghost use Rattle.schedule.specs.Search.{meetsIn};
-ghost use Rattle.explanation.specs.Places.{runText, runTexts, runsText};
+ghost use Rattle.explanation.specs.Places.{runText, runTexts, runsText, runsLine};
+ghost use Rattle.explanation.specs.Tabled.{runsIn};
 ghost use Rattle.explanation.specs.Writing.{Wrote};
 use crate::writing::Cursor;
 use crate::writing::put_number;
@@ -23,7 +22,7 @@ fn put_run(out: &mut [u8], c: Cursor, first: u32, last: u32) -> Cursor
 // Writes the runs of starts that meet the set, of the first `count` starts of the table.
 fn put_each_run(out: &mut [u8], c: Cursor, table: &[u16; TICKS], count: u32, set: u16) -> Cursor
     requires { ⌜ count ≤ 4096 ⌝ }
-    ensures { λ r. ⌜ Wrote (runTexts (runsFrom (meetsIn (now (table .entry)) set) 0 count)) c (now (out .entry)) r (now (out .exit)) ⌝ }
+    ensures { λ r. ⌜ Wrote (runTexts (runsIn (now (table .entry)) count set)) c (now (out .entry)) r (now (out .exit)) ⌝ }
 {
     let mut next = c;
     let mut s = 0;
@@ -38,12 +37,29 @@ fn put_each_run(out: &mut [u8], c: Cursor, table: &[u16; TICKS], count: u32, set
 }
 
 // Writes the runs of starts that meet the set, or that there is none.
-pub fn put_runs(out: &mut [u8], c: Cursor, table: &[u16; TICKS], count: u32, set: u16) -> Cursor
+fn put_runs(out: &mut [u8], c: Cursor, table: &[u16; TICKS], count: u32, set: u16) -> Cursor
     requires { ⌜ count ≤ 4096 ⌝ }
-    ensures { λ r. ⌜ Wrote (runsText (runsFrom (meetsIn (now (table .entry)) set) 0 count)) c (now (out .entry)) r (now (out .exit)) ⌝ }
+    ensures { λ r. ⌜ Wrote (runsText (runsIn (now (table .entry)) count set)) c (now (out .entry)) r (now (out .exit)) ⌝ }
 {
     if next_start(table, 0, count, set, true) == count {
         return put_word(out, c, b" none");
     }
     put_each_run(out, c, table, count, set)
+}
+
+// Writes a line of the runs of starts that meet the set, behind these words.
+pub fn put_runs_line<'a>(
+    out: &mut [u8],
+    c: Cursor,
+    words: &'a [u8],
+    table: &'a [u16; TICKS],
+    count: u32,
+    set: u16,
+) -> Cursor
+    requires { ⌜ count ≤ 4096 ⌝ }
+    ensures { λ r. ⌜ Wrote (runsLine (now (words .entry)) (runsIn (now (table .entry)) count set)) c (now (out .entry)) r (now (out .exit)) ⌝ }
+{
+    let mut at = put_word(out, c, words);
+    at = put_runs(out, at, table, count, set);
+    put_word(out, at, b"\n")
 }
