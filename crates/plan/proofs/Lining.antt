@@ -15,8 +15,9 @@ use Rattle.rules.specs.Fields.{value, fault}
 use Rattle.rules.specs.Plan.{Header, Activity}
 use Rattle.rules.specs.ActivityLine.{activityOf}
 use Rattle.rules.specs.Reading.{no, formed, onLine, hasId, activityLines}
+use Rattle.line.specs.Formed.{isFormed}
 use Rattle.plan.specs.Collected.{isId, saidBy}
-use Rattle.plan.specs.LinesView.{isFormed, Collected, activitiesView, linesView, linesFrom}
+use Rattle.plan.specs.LinesView.{Collected, activitiesView, linesView, linesFrom}
 use Rattle.plan.specs.declared.file.Lines.{Lines}
 use Rattle.plan.specs.declared.order.Line.{Line}
 use Rattle.plan.proofs.Fronts.{map-append}

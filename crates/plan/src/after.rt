@@ -11,9 +11,9 @@ ghost use Rattle.plan.specs.View.{PlanSaid, planView};
 ghost use Rattle.plan.specs.LineAt.{activityIn, LineSays};
 ghost use Rattle.plan.specs.Collected.{amongIds, idIn, foundAt};
 use crate::Plan;
-use crate::fields::eight_of;
+use crate::accessor::after_at;
 use crate::ids::has_id;
-use crate::line::after_at;
+use line::fields::eight_of;
 
 // Whether each of the first `count` ids of after is among the first n.
 fn all_among<'a>(after: &'a [u32], count: usize, ids: &'a [u16], n: usize) -> bool

@@ -10,17 +10,15 @@ ghost use Rattle.rules.specs.Reading.{activityLines};
 ghost use Rattle.text.specs.Text.{indexOf};
 ghost use Rattle.activity.specs.View.{headerView};
 ghost use Rattle.plan.specs.Collected.{LineIn};
-ghost use Rattle.plan.specs.LinesView.{Collected, isFormed, linesView, linesFrom};
-use crate::activity_line::read_activity;
+ghost use Rattle.plan.specs.LinesView.{Collected, linesView, linesFrom};
 use crate::ids::has_id;
 use crate::order::Line;
 use activity::Header;
+use line::activity_line::read_activity;
+use line::fields::formed;
 use rules::PLACES;
-use text::field::field_at;
-use text::field::field_count;
 use text::field::find;
 use text::word::ACT;
-use text::word::is;
 
 // The first `count` activity lines, in order, and their ids; where the number is not 0, the refusal's number and line.
 pub struct Lines {
@@ -29,16 +27,6 @@ pub struct Lines {
     pub count: usize,
     pub ids: [u16; PLACES],
     pub list: [Line; PLACES],
-}
-
-// Whether the line l, without its LF, begins with this word and has this many fields.
-pub fn formed(l: &[u8], word: &[u8], count: usize) -> bool
-    ensures { λ r. ⌜ r ≡ isFormed (now (word .entry)) count (now (l .entry)) ⌝ }
-{
-    if field_count(l) != count {
-        return false;
-    }
-    is(field_at(l, 0), word)
 }
 
 // No line read.

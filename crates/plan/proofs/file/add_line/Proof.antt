@@ -12,7 +12,7 @@ use Rattle.activity.specs.View.{headerView, activityView}
 use Rattle.plan.specs.LinesView.{activitiesView}
 use Rattle.plan.specs.declared.order.Line.{Line}
 use Rattle.plan.proofs.LineAt.{line-in, line-fields}
-use Rattle.plan.proofs.Unless.{unless-value, unless-fault}
+use Rattle.line.proofs.Unless.{unless-value, unless-fault}
 use Rattle.plan.proofs.Lining.{form-is, line-2, line-5, line-fault, line-6, line-on, counted, from-refused, from-pushed, pushed-view, has-collected}
 use Rattle.plan.proofs.file.add_line.Statement.{statement}
 use Rattle.plan.proofs.file.add_line.Tie as tie

@@ -1,0 +1,2 @@
+pub mod Unless
+pub mod Lists

@@ -1,0 +1,33 @@
+-- `activity_line::read_activity` meets its contract: its three groups of fields, one after the other.
+-- Assumes nothing.
+use mathlib.Core.Path.{sym, _∙_}
+use borrow.Author.Needs.{needs}
+use Rattle.rules.specs.ActivityLine.{activityOf}
+use Rattle.activity.specs.View.{headerView, activityView}
+use Rattle.line.specs.Cursor.{timesThen, listsThen, drawsThen}
+use Rattle.line.proofs.activity_line.read_activity.Statement.{statement}
+use Rattle.line.proofs.activity_line.read_activity.Tie as tie
+
+read-times-requires : tie.Need-read-times-requires
+read-times-requires c κs = search needs
+
+read-lists-requires : tie.Need-read-lists-requires
+read-lists-requires c κs = search needs
+
+read-draws-requires : tie.Need-read-draws-requires
+read-draws-requires c κs = search needs
+
+returns : tie.Need-returns
+unfolding activityOf timesThen listsThen drawsThen headerView activityView
+returns c =
+    let d = c .before in
+    let r = d .before in
+    let t = r .before in
+    let s = r .read-lists .ensures .1 in (
+      sym (t .read-times .ensures _ ∙ r .read-lists .ensures .0 _ ∙ d .read-draws .ensures _),
+      record { windows = s .windows; after = s .after; units = s .units; needs = s .needs; sets = s .sets },
+    )
+
+pub read-activity-spec : {M : Type 1} → statement M
+read-activity-spec =
+    tie.close (tie.spec read-times-requires read-lists-requires read-draws-requires returns)

@@ -1,0 +1,2 @@
+pub mod Formed
+pub mod Cursor
