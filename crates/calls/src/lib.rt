@@ -152,7 +152,7 @@ pub fn output(bytes: &[u8], out: &mut [u8; REPORT]) -> usize
 {
     let reading = read(bytes);
     if reading.number != 0 {
-        return report::line::put_no(out, 0, reading.number as u64, reading.line as u64);
+        return report::lines::put_no(out, 0, reading.number as u64, reading.line as u64);
     }
     report::whole::put_report(bytes, reading.plan, out)
 }

@@ -3,8 +3,8 @@
 use native.Mathlib.Omega.{arith}
 use borrow.Author.Needs.{needs}
 use Rattle.report.proofs.Writing.{more}
-use Rattle.report.proofs.line.put_word.Statement.{statement}
-use Rattle.report.proofs.line.put_word.Tie as tie
+use Rattle.report.proofs.lines.put_word.Statement.{statement}
+use Rattle.report.proofs.lines.put_word.Tie as tie
 
 slice-aggregate-put-bytes : tie.Need-slice-aggregate-put-bytes
 slice-aggregate-put-bytes c = search needs

@@ -4,8 +4,8 @@ use native.Mathlib.Omega.{arith}
 use borrow.Author.Needs.{needs}
 use Rattle.text.proofs.Decimal.{decimal-most}
 use Rattle.report.proofs.Writing.{more, first-field, next-field, line-end}
-use Rattle.report.proofs.line.put_refused.Statement.{statement}
-use Rattle.report.proofs.line.put_refused.Tie as tie
+use Rattle.report.proofs.lines.put_refused.Statement.{statement}
+use Rattle.report.proofs.lines.put_refused.Tie as tie
 
 put-number-requires : tie.Need-put-number-requires
 put-number-requires c κs = omega (arith, decimal-most (c .before .before .args .id) (omega arith))

@@ -4,8 +4,8 @@ use native.Mathlib.Omega.{arith}
 use borrow.Author.Needs.{needs}
 use Rattle.text.proofs.Decimal.{decimal-most}
 use Rattle.report.proofs.Writing.{more}
-use Rattle.report.proofs.line.put_field.Statement.{statement}
-use Rattle.report.proofs.line.put_field.Tie as tie
+use Rattle.report.proofs.lines.put_field.Statement.{statement}
+use Rattle.report.proofs.lines.put_field.Tie as tie
 
 slice-aggregate-put-bytes : tie.Need-slice-aggregate-put-bytes
 slice-aggregate-put-bytes c = search needs

@@ -4,8 +4,8 @@ use native.Mathlib.Omega.{arith}
 use borrow.Author.Needs.{needs}
 use Rattle.report.specs.Lines.{noText}
 use Rattle.report.proofs.Writing.{first-field, next-field, line-end}
-use Rattle.report.proofs.line.put_no.Statement.{statement}
-use Rattle.report.proofs.line.put_no.Tie as tie
+use Rattle.report.proofs.lines.put_no.Statement.{statement}
+use Rattle.report.proofs.lines.put_no.Tie as tie
 
 slice-aggregate-put-bytes : tie.Need-slice-aggregate-put-bytes
 slice-aggregate-put-bytes c = search needs

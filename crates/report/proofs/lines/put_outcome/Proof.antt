@@ -2,8 +2,8 @@
 -- Assumes nothing.
 use borrow.Author.Needs.{needs}
 use Rattle.report.specs.Lines.{outcomeText}
-use Rattle.report.proofs.line.put_outcome.Statement.{statement}
-use Rattle.report.proofs.line.put_outcome.Tie as tie
+use Rattle.report.proofs.lines.put_outcome.Statement.{statement}
+use Rattle.report.proofs.lines.put_outcome.Tie as tie
 
 enum-known-outcome : tie.Need-enum-known-outcome
 enum-known-outcome c = search needs
