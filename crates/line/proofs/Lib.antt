@@ -1,2 +1,3 @@
 pub mod Unless
 pub mod Lists
+pub mod Begins

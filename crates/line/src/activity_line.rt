@@ -2,14 +2,17 @@
 ghost use mathlib.Core.Path.{_≡_};
 ghost use mathlib.Core.List.{List};
 ghost use Prim.Native.Nat.{ℕ, _≤_};
+ghost use lib.ListN.{length};
 ghost use Rattle.rules.specs.Plan.{Window, Setting, Activity as ActivityValue};
 ghost use Rattle.rules.specs.Fields.{Read, value};
 ghost use Rattle.rules.specs.Lines.{splitOn};
 ghost use Rattle.rules.specs.ActivityLine.{activityOf};
 ghost use Rattle.activity.specs.View.{headerView, activityView, Sized};
+ghost use Rattle.line.specs.Begins.{Begins, BeginsUnless};
 ghost use Rattle.line.specs.Cursor.{unless, timesThen, listsThen, drawsThen, windowForm, numberForm, settingForm, Listed};
 use crate::fields::all_of;
 use crate::fields::eight_of;
+use crate::fields::field_from;
 use crate::fields::first_four;
 use crate::fields::list_field;
 use crate::fields::number_field;
@@ -19,29 +22,33 @@ use activity::Header;
 use text::list::Form;
 use text::list::ListRead;
 
-// The fields before the lists.
+// The fields before the lists, and where the next begins.
 pub struct Times {
     pub fault: u32,
     pub id: u32,
     pub priority: u32,
     pub duration: u32,
     pub preferred: u32,
+    pub next: usize,
 }
 
-// Fields 1 to 4 of the line l, in a plan of this horizon.
-fn read_times(l: &[u8], horizon: u32) -> Times
-    ensures { λ r. ⌜ ((next : ℕ → ℕ → ℕ → ℕ → Read ActivityValue) → timesThen horizon (splitOn 9 (now (l .entry))) next ≡ unless (r .fault) (next (r .id) (r .priority) (r .duration) (r .preferred))) ⌝ }
+// Fields 1 to 4 of a line l, from byte `at` on, in a plan of this horizon.
+fn read_times(l: &[u8], at: usize, horizon: u32) -> Times
+    requires { ⌜ at ≤ length (now l) ⌝ }
+    ensures { λ r. ⌜ r .next ≤ length (now (l .entry)) ⌝ }
+    ensures { λ r. ⌜ ((fs : List (List ℕ)) → Begins fs 1 (now (l .entry)) at → ((next : ℕ → ℕ → ℕ → ℕ → Read ActivityValue) → timesThen horizon fs next ≡ unless (r .fault) (next (r .id) (r .priority) (r .duration) (r .preferred))) × BeginsUnless (r .fault) fs 5 (now (l .entry)) (r .next)) ⌝ }
 {
-    let id = number_field(0, l, 1, 0, 65535);
-    let priority = number_field(id.fault, l, 2, 0, 65535);
-    let duration = number_field(priority.fault, l, 3, 1, horizon);
-    let preferred = number_field(duration.fault, l, 4, 0, 4095);
+    let id = number_field(0, l, at, 0, 65535);
+    let priority = number_field(id.fault, l, id.next, 0, 65535);
+    let duration = number_field(priority.fault, l, priority.next, 1, horizon);
+    let preferred = number_field(duration.fault, l, duration.next, 0, 4095);
     Times {
         fault: preferred.fault,
         id: id.value,
         priority: priority.value,
         duration: duration.value,
         preferred: preferred.value,
+        next: preferred.next,
     }
 }
 
@@ -135,20 +142,29 @@ fn with_lists(
     }
 }
 
-// Fields 5 to 9 of the line l, behind fields with this fault; the activity's numbers are 0.
-fn read_lists(fault: u32, l: &[u8]) -> ActivityRead
-    ensures { λ r. ⌜ ((next : List Window → List ℕ → List ℕ → List Setting → List Setting → Read ActivityValue) → unless fault (listsThen (splitOn 9 (now (l .entry))) next) ≡ unless (r .fault) (next (activityView (r .activity) .windows) (activityView (r .activity) .after) (activityView (r .activity) .units) (activityView (r .activity) .needs) (activityView (r .activity) .sets))) ⌝ }
-    ensures { λ r. ⌜ Sized (r .activity) ⌝ }
+// The lists of a line, and where the next field begins.
+pub struct ListsRead {
+    pub fault: u32,
+    pub activity: Activity,
+    pub next: usize,
+}
+
+// Fields 5 to 9 of a line l, from byte `at` on, behind fields with this fault; the activity's numbers are 0.
+fn read_lists(fault: u32, l: &[u8], at: usize) -> ListsRead
+    requires { ⌜ at ≤ length (now l) ⌝ }
+    ensures { λ r. ⌜ (r .next ≤ length (now (l .entry))) × Sized (r .activity) ⌝ }
+    ensures { λ r. ⌜ ((fs : List (List ℕ)) → BeginsUnless fault fs 5 (now (l .entry)) at → ((next : List Window → List ℕ → List ℕ → List Setting → List Setting → Read ActivityValue) → unless fault (listsThen fs next) ≡ unless (r .fault) (next (activityView (r .activity) .windows) (activityView (r .activity) .after) (activityView (r .activity) .units) (activityView (r .activity) .needs) (activityView (r .activity) .sets))) × BeginsUnless (r .fault) fs 10 (now (l .entry)) (r .next)) ⌝ }
 {
-    let windows = list_field(fault, l, 5, windows());
-    let after = list_field(windows.fault, l, 6, numbers(65535, 8));
-    let units = list_field(after.fault, l, 7, numbers(31, 32));
-    let needs = list_field(units.fault, l, 8, settings());
-    let sets = list_field(needs.fault, l, 9, settings());
-    let activity = with_lists(windows, after, units, needs, sets);
-    ActivityRead {
-        fault: sets.fault,
+    let w = list_field(fault, l, at, windows());
+    let a = list_field(w.list.fault, l, w.next, numbers(65535, 8));
+    let u = list_field(a.list.fault, l, a.next, numbers(31, 32));
+    let n = list_field(u.list.fault, l, u.next, settings());
+    let s = list_field(n.list.fault, l, n.next, settings());
+    let activity = with_lists(w.list, a.list, u.list, n.list, s.list);
+    ListsRead {
+        fault: s.list.fault,
         activity,
+        next: s.next,
     }
 }
 
@@ -162,15 +178,16 @@ pub struct Draws {
     pub warm: u32,
 }
 
-// Fields 10 to 14 of the line l, behind fields with this fault.
-fn read_draws(fault: u32, l: &[u8]) -> Draws
-    ensures { λ r. ⌜ ((next : ℕ → ℕ → ℕ → ℕ → ℕ → Read ActivityValue) → unless fault (drawsThen (splitOn 9 (now (l .entry))) next) ≡ unless (r .fault) (next (r .engines) (r .peak) (r .draw) (r .volume) (r .warm))) ⌝ }
+// Fields 10 to 14 of a line l, from byte `at` on, behind fields with this fault.
+fn read_draws(fault: u32, l: &[u8], at: usize) -> Draws
+    requires { ⌜ at ≤ length (now l) ⌝ }
+    ensures { λ r. ⌜ ((fs : List (List ℕ)) → BeginsUnless fault fs 10 (now (l .entry)) at → (next : ℕ → ℕ → ℕ → ℕ → ℕ → Read ActivityValue) → unless fault (drawsThen fs next) ≡ unless (r .fault) (next (r .engines) (r .peak) (r .draw) (r .volume) (r .warm))) ⌝ }
 {
-    let engines = number_field(fault, l, 10, 0, 64);
-    let peak = number_field(engines.fault, l, 11, 0, 1000000);
-    let draw = number_field(peak.fault, l, 12, 0, 1000000);
-    let volume = number_field(draw.fault, l, 13, 0, 1000000000);
-    let warm = number_field(volume.fault, l, 14, 0, 1);
+    let engines = number_field(fault, l, at, 0, 64);
+    let peak = number_field(engines.fault, l, engines.next, 0, 1000000);
+    let draw = number_field(peak.fault, l, peak.next, 0, 1000000);
+    let volume = number_field(draw.fault, l, draw.next, 0, 1000000000);
+    let warm = number_field(volume.fault, l, volume.next, 0, 1);
     Draws {
         fault: warm.fault,
         engines: engines.value,
@@ -186,9 +203,10 @@ pub fn read_activity(l: &[u8], h: Header) -> ActivityRead
     ensures { λ r. ⌜ unless (r .fault) (value (activityView (r .activity))) ≡ activityOf (headerView h) (splitOn 9 (now (l .entry))) ⌝ }
     ensures { λ r. ⌜ Sized (r .activity) ⌝ }
 {
-    let t = read_times(l, h.horizon);
-    let r = read_lists(t.fault, l);
-    let d = read_draws(r.fault, l);
+    let word = field_from(l, 0);
+    let t = read_times(l, word.next, h.horizon);
+    let r = read_lists(t.fault, l, t.next);
+    let d = read_draws(r.fault, l, r.next);
     let mut a = r.activity;
     a.id = t.id;
     a.priority = t.priority;

@@ -1,15 +1,17 @@
 // The fields of a line, left to right: a field behind one with a fault has that fault.
 ghost use mathlib.Core.Path.{_≡_};
-ghost use mathlib.Core.List.{[], map};
-ghost use Prim.Native.Nat.{_≤_};
-ghost use lib.ListN.{getD, take};
+ghost use mathlib.Core.List.{List, map};
+ghost use Prim.Native.Nat.{ℕ, _+_, _-_, _≤_};
+ghost use lib.ListN.{length, take, drop};
 ghost use Rattle.rules.specs.Fields.{value, numberField, listField};
-ghost use Rattle.rules.specs.Lines.{splitOn};
+ghost use Rattle.rules.specs.Lines.{field};
 ghost use Rattle.text.specs.Text.{kindOf, listView};
 ghost use Rattle.line.specs.Formed.{isFormed};
+ghost use Rattle.line.specs.Begins.{Begins, BeginsUnless};
 ghost use Rattle.line.specs.Cursor.{unless, numberOf, itemsOf};
 use text::field::field_at;
 use text::field::field_count;
+use text::field::find;
 use text::list::Form;
 use text::list::ListRead;
 use text::list::no_items;
@@ -53,26 +55,75 @@ pub fn number_in(s: &[u8], lo: u32, hi: u32) -> NumberRead
     }
 }
 
-// Field k of the line l, a number from lo to hi, behind fields with this fault.
-pub fn number_field(fault: u32, l: &[u8], k: usize, lo: u32, hi: u32) -> NumberRead
-    ensures { λ r. ⌜ unless (r .fault) (value (r .value)) ≡ unless fault (numberField lo hi (getD (splitOn 9 (now (l .entry))) k [])) ⌝ }
-{
-    if fault != 0 {
-        return NumberRead { fault, value: 0 };
-    }
-    number_in(field_at(l, k), lo, hi)
+// Where a field ends and where the next begins: behind the tab, or at the end of the line.
+pub struct FieldEnd {
+    pub end: usize,
+    pub next: usize,
 }
 
-// Field k of the line l, a list of the form f, behind fields with this fault.
-pub fn list_field(fault: u32, l: &[u8], k: usize, f: Form) -> ListRead
-    requires { ⌜ f .most ≤ 32 ⌝ }
-    ensures { λ r. ⌜ listView r ≡ unless fault (listField (kindOf f) (getD (splitOn 9 (now (l .entry))) k [])) ⌝ }
-    ensures { λ r. ⌜ r .count ≤ f .most ⌝ }
+// The field of the line l that begins at `at`.
+pub fn field_from(l: &[u8], at: usize) -> FieldEnd
+    requires { ⌜ at ≤ length (now l) ⌝ }
+    ensures { λ r. ⌜ (at ≤ r .end) × (r .end ≤ length (now (l .entry))) × (r .next ≤ length (now (l .entry))) ⌝ }
+    ensures { λ r. ⌜ ((fs : List (List ℕ)) (k : ℕ) → Begins fs k (now (l .entry)) at → (take (r .end - at) (drop at (now (l .entry))) ≡ field fs k) × Begins fs (k + 1) (now (l .entry)) (r .next)) ⌝ }
+{
+    let end = find(l, at, b'\t');
+    if end == l.len() {
+        return FieldEnd { end, next: end };
+    }
+    FieldEnd { end, next: end + 1 }
+}
+
+// A number field, its value where the fault is 0, and where the next field begins.
+pub struct NumberNext {
+    pub fault: u32,
+    pub value: u32,
+    pub next: usize,
+}
+
+// The field of the line l that begins at `at`, a number from lo to hi, behind fields with this fault.
+pub fn number_field(fault: u32, l: &[u8], at: usize, lo: u32, hi: u32) -> NumberNext
+    requires { ⌜ at ≤ length (now l) ⌝ }
+    ensures { λ r. ⌜ r .next ≤ length (now (l .entry)) ⌝ }
+    ensures { λ r. ⌜ ((fs : List (List ℕ)) (k : ℕ) → BeginsUnless fault fs k (now (l .entry)) at → (unless (r .fault) (value (r .value)) ≡ unless fault (numberField lo hi (field fs k))) × BeginsUnless (r .fault) fs (k + 1) (now (l .entry)) (r .next)) ⌝ }
 {
     if fault != 0 {
-        return no_items(fault);
+        return NumberNext {
+            fault,
+            value: 0,
+            next: at,
+        };
     }
-    read_list(field_at(l, k), f)
+    let f = field_from(l, at);
+    let end = f.end;
+    let r = number_in(&l[at..end], lo, hi);
+    NumberNext {
+        fault: r.fault,
+        value: r.value,
+        next: f.next,
+    }
+}
+
+// A list field, and where the next field begins.
+pub struct ListNext {
+    pub list: ListRead,
+    pub next: usize,
+}
+
+// The field of the line l that begins at `at`, a list of this form, behind fields with this fault.
+pub fn list_field(fault: u32, l: &[u8], at: usize, form: Form) -> ListNext
+    requires { ⌜ (at ≤ length (now l)) × (form .most ≤ 32) ⌝ }
+    ensures { λ r. ⌜ (r .next ≤ length (now (l .entry))) × (r .list .count ≤ form .most) ⌝ }
+    ensures { λ r. ⌜ ((fs : List (List ℕ)) (k : ℕ) → BeginsUnless fault fs k (now (l .entry)) at → (listView (r .list) ≡ unless fault (listField (kindOf form) (field fs k))) × BeginsUnless (r .list .fault) fs (k + 1) (now (l .entry)) (r .next)) ⌝ }
+{
+    if fault != 0 {
+        let list = no_items(fault);
+        return ListNext { list, next: at };
+    }
+    let f = field_from(l, at);
+    let end = f.end;
+    let list = read_list(&l[at..end], form);
+    ListNext { list, next: f.next }
 }
 
 // The first four numbers.

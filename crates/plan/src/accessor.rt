@@ -11,9 +11,10 @@ use activity::Activity;
 use activity::Header;
 use line::activity_line::numbers;
 use line::activity_line::read_activity;
-use line::fields::list_field;
+use text::field::field_at;
 use text::field::find;
 use text::list::ListRead;
+use text::list::read_list;
 
 // The line of s that begins at `at`, without its LF.
 fn line_at(s: &[u8], at: usize) -> &[u8]
@@ -40,5 +41,5 @@ pub fn after_at(s: &[u8], at: u16) -> ListRead
     ensures { λ r. ⌜ r .count ≤ 8 ⌝ }
     ensures { λ r. ⌜ ((h : HeaderValue) → LineSays h (now (s .entry)) at → map numberOf (itemsOf r) ≡ activityIn h (now (s .entry)) at .after) ⌝ }
 {
-    list_field(0, line_at(s, at as usize), 6, numbers(65535, 8))
+    read_list(field_at(line_at(s, at as usize), 6), numbers(65535, 8))
 }

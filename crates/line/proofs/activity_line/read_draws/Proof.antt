@@ -29,12 +29,13 @@ returns c =
     let c3 = c4 .before in
     let c2 = c3 .before in
     let c1 = c2 .before in
-    λ next.
-    then _ _ _ _ _ (c1 .number-field .ensures)
-    ∙ then _ _ _ _ _ (c2 .number-field2 .ensures)
-    ∙ then _ _ _ _ _ (c3 .number-field3 .ensures)
-    ∙ then _ _ _ _ _ (c4 .number-field4 .ensures)
-    ∙ then _ _ _ _ _ (c .number-field5 .ensures)
+    λ fs b next.
+    let b1 = c1 .number-field .ensures .1 fs 10 b in
+    let b2 = c2 .number-field2 .ensures .1 fs 11 (b1 .1) in
+    let b3 = c3 .number-field3 .ensures .1 fs 12 (b2 .1) in
+    let b4 = c4 .number-field4 .ensures .1 fs 13 (b3 .1) in
+    let b5 = c .number-field5 .ensures .1 fs 14 (b4 .1) in
+    then _ _ _ _ _ (b1 .0) ∙ then _ _ _ _ _ (b2 .0) ∙ then _ _ _ _ _ (b3 .0) ∙ then _ _ _ _ _ (b4 .0) ∙ then _ _ _ _ _ (b5 .0)
 
 pub read-draws-spec : {M : Type 1} → statement M
 read-draws-spec =
