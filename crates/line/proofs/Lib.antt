@@ -1,3 +1,3 @@
 pub mod Unless
 pub mod Lists
-pub mod Begins
+pub mod FieldsFrom

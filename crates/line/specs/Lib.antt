@@ -1,3 +1,3 @@
 pub mod Formed
-pub mod Begins
+pub mod FieldsFrom
 pub mod Cursor

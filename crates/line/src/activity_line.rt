@@ -8,7 +8,7 @@ ghost use Rattle.rules.specs.Fields.{Read, value};
 ghost use Rattle.rules.specs.Lines.{splitOn};
 ghost use Rattle.rules.specs.ActivityLine.{activityOf};
 ghost use Rattle.activity.specs.View.{headerView, activityView, Sized};
-ghost use Rattle.line.specs.Begins.{Begins, BeginsUnless};
+ghost use Rattle.line.specs.FieldsFrom.{FieldsFrom, FieldsUnless};
 ghost use Rattle.line.specs.Cursor.{unless, timesThen, listsThen, drawsThen, windowForm, numberForm, settingForm, Listed};
 use crate::fields::all_of;
 use crate::fields::eight_of;
@@ -36,7 +36,7 @@ pub struct Times {
 fn read_times(l: &[u8], at: usize, horizon: u32) -> Times
     requires { ⌜ at ≤ length (now l) ⌝ }
     ensures { λ r. ⌜ r .next ≤ length (now (l .entry)) ⌝ }
-    ensures { λ r. ⌜ ((fs : List (List ℕ)) → Begins fs 1 (now (l .entry)) at → ((next : ℕ → ℕ → ℕ → ℕ → Read ActivityValue) → timesThen horizon fs next ≡ unless (r .fault) (next (r .id) (r .priority) (r .duration) (r .preferred))) × BeginsUnless (r .fault) fs 5 (now (l .entry)) (r .next)) ⌝ }
+    ensures { λ r. ⌜ ((fs : List (List ℕ)) → FieldsFrom fs 1 (now (l .entry)) at → ((next : ℕ → ℕ → ℕ → ℕ → Read ActivityValue) → timesThen horizon fs next ≡ unless (r .fault) (next (r .id) (r .priority) (r .duration) (r .preferred))) × FieldsUnless (r .fault) fs 5 (now (l .entry)) (r .next)) ⌝ }
 {
     let id = number_field(0, l, at, 0, 65535);
     let priority = number_field(id.fault, l, id.next, 0, 65535);
@@ -153,7 +153,7 @@ pub struct ListsRead {
 fn read_lists(fault: u32, l: &[u8], at: usize) -> ListsRead
     requires { ⌜ at ≤ length (now l) ⌝ }
     ensures { λ r. ⌜ (r .next ≤ length (now (l .entry))) × Sized (r .activity) ⌝ }
-    ensures { λ r. ⌜ ((fs : List (List ℕ)) → BeginsUnless fault fs 5 (now (l .entry)) at → ((next : List Window → List ℕ → List ℕ → List Setting → List Setting → Read ActivityValue) → unless fault (listsThen fs next) ≡ unless (r .fault) (next (activityView (r .activity) .windows) (activityView (r .activity) .after) (activityView (r .activity) .units) (activityView (r .activity) .needs) (activityView (r .activity) .sets))) × BeginsUnless (r .fault) fs 10 (now (l .entry)) (r .next)) ⌝ }
+    ensures { λ r. ⌜ ((fs : List (List ℕ)) → FieldsUnless fault fs 5 (now (l .entry)) at → ((next : List Window → List ℕ → List ℕ → List Setting → List Setting → Read ActivityValue) → unless fault (listsThen fs next) ≡ unless (r .fault) (next (activityView (r .activity) .windows) (activityView (r .activity) .after) (activityView (r .activity) .units) (activityView (r .activity) .needs) (activityView (r .activity) .sets))) × FieldsUnless (r .fault) fs 10 (now (l .entry)) (r .next)) ⌝ }
 {
     let w = list_field(fault, l, at, windows());
     let a = list_field(w.list.fault, l, w.next, numbers(65535, 8));
@@ -181,7 +181,7 @@ pub struct Draws {
 // Fields 10 to 14 of a line l, from byte `at` on, behind fields with this fault.
 fn read_draws(fault: u32, l: &[u8], at: usize) -> Draws
     requires { ⌜ at ≤ length (now l) ⌝ }
-    ensures { λ r. ⌜ ((fs : List (List ℕ)) → BeginsUnless fault fs 10 (now (l .entry)) at → (next : ℕ → ℕ → ℕ → ℕ → ℕ → Read ActivityValue) → unless fault (drawsThen fs next) ≡ unless (r .fault) (next (r .engines) (r .peak) (r .draw) (r .volume) (r .warm))) ⌝ }
+    ensures { λ r. ⌜ ((fs : List (List ℕ)) → FieldsUnless fault fs 10 (now (l .entry)) at → (next : ℕ → ℕ → ℕ → ℕ → ℕ → Read ActivityValue) → unless fault (drawsThen fs next) ≡ unless (r .fault) (next (r .engines) (r .peak) (r .draw) (r .volume) (r .warm))) ⌝ }
 {
     let engines = number_field(fault, l, at, 0, 64);
     let peak = number_field(engines.fault, l, engines.next, 0, 1000000);

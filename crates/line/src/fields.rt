@@ -7,7 +7,7 @@ ghost use Rattle.rules.specs.Fields.{value, numberField, listField};
 ghost use Rattle.rules.specs.Lines.{field};
 ghost use Rattle.text.specs.Text.{kindOf, listView};
 ghost use Rattle.line.specs.Formed.{isFormed};
-ghost use Rattle.line.specs.Begins.{Begins, BeginsUnless};
+ghost use Rattle.line.specs.FieldsFrom.{FieldsFrom, FieldsUnless};
 ghost use Rattle.line.specs.Cursor.{unless, numberOf, itemsOf};
 use text::field::field_at;
 use text::field::field_count;
@@ -65,7 +65,7 @@ pub struct FieldEnd {
 pub fn field_from(l: &[u8], at: usize) -> FieldEnd
     requires { ⌜ at ≤ length (now l) ⌝ }
     ensures { λ r. ⌜ (at ≤ r .end) × (r .end ≤ length (now (l .entry))) × (r .next ≤ length (now (l .entry))) ⌝ }
-    ensures { λ r. ⌜ ((fs : List (List ℕ)) (k : ℕ) → Begins fs k (now (l .entry)) at → (take (r .end - at) (drop at (now (l .entry))) ≡ field fs k) × Begins fs (k + 1) (now (l .entry)) (r .next)) ⌝ }
+    ensures { λ r. ⌜ ((fs : List (List ℕ)) (k : ℕ) → FieldsFrom fs k (now (l .entry)) at → (take (r .end - at) (drop at (now (l .entry))) ≡ field fs k) × FieldsFrom fs (k + 1) (now (l .entry)) (r .next)) ⌝ }
 {
     let end = find(l, at, b'\t');
     if end == l.len() {
@@ -85,7 +85,7 @@ pub struct NumberNext {
 pub fn number_field(fault: u32, l: &[u8], at: usize, lo: u32, hi: u32) -> NumberNext
     requires { ⌜ at ≤ length (now l) ⌝ }
     ensures { λ r. ⌜ r .next ≤ length (now (l .entry)) ⌝ }
-    ensures { λ r. ⌜ ((fs : List (List ℕ)) (k : ℕ) → BeginsUnless fault fs k (now (l .entry)) at → (unless (r .fault) (value (r .value)) ≡ unless fault (numberField lo hi (field fs k))) × BeginsUnless (r .fault) fs (k + 1) (now (l .entry)) (r .next)) ⌝ }
+    ensures { λ r. ⌜ ((fs : List (List ℕ)) (k : ℕ) → FieldsUnless fault fs k (now (l .entry)) at → (unless (r .fault) (value (r .value)) ≡ unless fault (numberField lo hi (field fs k))) × FieldsUnless (r .fault) fs (k + 1) (now (l .entry)) (r .next)) ⌝ }
 {
     if fault != 0 {
         return NumberNext {
@@ -114,7 +114,7 @@ pub struct ListNext {
 pub fn list_field(fault: u32, l: &[u8], at: usize, form: Form) -> ListNext
     requires { ⌜ (at ≤ length (now l)) × (form .most ≤ 32) ⌝ }
     ensures { λ r. ⌜ (r .next ≤ length (now (l .entry))) × (r .list .count ≤ form .most) ⌝ }
-    ensures { λ r. ⌜ ((fs : List (List ℕ)) (k : ℕ) → BeginsUnless fault fs k (now (l .entry)) at → (listView (r .list) ≡ unless fault (listField (kindOf form) (field fs k))) × BeginsUnless (r .list .fault) fs (k + 1) (now (l .entry)) (r .next)) ⌝ }
+    ensures { λ r. ⌜ ((fs : List (List ℕ)) (k : ℕ) → FieldsUnless fault fs k (now (l .entry)) at → (listView (r .list) ≡ unless fault (listField (kindOf form) (field fs k))) × FieldsUnless (r .list .fault) fs (k + 1) (now (l .entry)) (r .next)) ⌝ }
 {
     if fault != 0 {
         let list = no_items(fault);

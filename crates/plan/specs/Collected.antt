@@ -13,11 +13,8 @@ use Rattle.plan.specs.declared.order.Line.{Line}
 
 -- ---- ids
 
-unfoldable pub isId : ℕ → ℕ → Bool
-isId id x = eqb x id
-
 unfoldable pub amongIds : List ℕ → ℕ → Bool
-amongIds ids id = anyOf (isId id) ids
+amongIds ids id = anyOf (eqb id) ids
 
 -- the line of this id, where the ids are those of the lines from n on
 unfoldable pub lineAmong : ℕ → ℕ → List ℕ → ℕ

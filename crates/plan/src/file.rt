@@ -11,12 +11,12 @@ ghost use Rattle.text.specs.Text.{indexOf};
 ghost use Rattle.activity.specs.View.{headerView};
 ghost use Rattle.plan.specs.Collected.{LineIn};
 ghost use Rattle.plan.specs.LinesView.{Collected, linesView, linesFrom};
-use crate::ids::has_id;
 use crate::order::Line;
 use activity::Header;
 use line::activity_line::read_activity;
 use line::fields::formed;
 use rules::PLACES;
+use rules::among;
 use text::field::find;
 use text::word::ACT;
 
@@ -25,7 +25,7 @@ pub struct Lines {
     pub number: u32,
     pub line: u32,
     pub count: usize,
-    pub ids: [u16; PLACES],
+    pub ids: [u32; PLACES],
     pub list: [Line; PLACES],
 }
 
@@ -65,7 +65,7 @@ fn push(t: Lines, line: Line) -> Lines
 {
     let n = t.count;
     let mut r = t;
-    r.ids[n] = line.id;
+    r.ids[n] = line.id as u32;
     r.list[n] = line;
     r.count = n + 1;
     r
@@ -92,7 +92,7 @@ fn add_line(t: Lines, s: &[u8], at: usize, end: usize, h: Header) -> Lines
     }
     let a = r.activity;
     let ids = t.ids;
-    if has_id(&ids, n, a.id) {
+    if among(&ids, n, a.id) {
         return refuse(t, 6);
     }
     let line = Line {

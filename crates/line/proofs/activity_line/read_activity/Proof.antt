@@ -7,7 +7,7 @@ use Rattle.rules.specs.Lines.{splitOn}
 use Rattle.rules.specs.ActivityLine.{activityOf}
 use Rattle.activity.specs.View.{headerView, activityView}
 use Rattle.line.specs.Cursor.{timesThen, listsThen, drawsThen}
-use Rattle.line.proofs.Begins.{first-begins}
+use Rattle.line.proofs.FieldsFrom.{first-from}
 use Rattle.line.proofs.activity_line.read_activity.Statement.{statement}
 use Rattle.line.proofs.activity_line.read_activity.Tie as tie
 
@@ -31,7 +31,7 @@ returns c =
     let t = r .before in
     let w = t .before in
     let l = w .before .before .args .l .now in
-    let b = w .field-from .ensures .1 (splitOn 9 l) 0 (first-begins l) .1 in
+    let b = w .field-from .ensures .1 (splitOn 9 l) 0 (first-from l) .1 in
     let e = t .read-times .ensures .1 (splitOn 9 l) b in
     let f = r .read-lists .ensures .1 (splitOn 9 l) (e .1) in
     let s = r .read-lists .ensures .0 .1 in (

@@ -2,7 +2,7 @@
 -- Assumes nothing.
 use mathlib.Core.Path.{sym, _∙_}
 use borrow.Author.Needs.{needs}
-use Rattle.line.specs.Begins.{BeginsUnless}
+use Rattle.line.specs.FieldsFrom.{FieldsUnless}
 use Rattle.line.specs.Cursor.{timesThen}
 use Rattle.line.proofs.Unless.{unless-none, then}
 use Rattle.line.proofs.activity_line.read_times.Statement.{statement}
@@ -21,7 +21,7 @@ number-field-requires-4 : tie.Need-number-field-requires-4
 number-field-requires-4 c κs = search needs
 
 returns : tie.Need-returns
-unfolding timesThen BeginsUnless
+unfolding timesThen FieldsUnless
 returns c =
     let c3 = c .before in
     let c2 = c3 .before in

@@ -2,7 +2,7 @@
 -- Assumes nothing.
 use native.Mathlib.Omega.{arith}
 use borrow.Author.Needs.{needs}
-use Rattle.line.proofs.Begins.{field-is, next-begins, none-begins}
+use Rattle.line.proofs.FieldsFrom.{field-is, next-from, none-from}
 use Rattle.line.proofs.fields.field_from.Statement.{statement}
 use Rattle.line.proofs.fields.field_from.Tie as tie
 
@@ -14,7 +14,7 @@ returns c =
     let f = c .before .find in
     let b = c .before .before .before in
     let a = b .args in
-    (omega arith, λ fs k g. (field-is fs k (a .l .now) (a .at) (f .result) (b .pre) (f .ensures .0) g, none-begins fs k (a .l .now) (a .at) (f .result) (b .pre) (f .ensures .0) g (omega arith)))
+    (omega arith, λ fs k g. (field-is fs k (a .l .now) (a .at) (f .result) (b .pre) (f .ensures .0) g, none-from fs k (a .l .now) (a .at) (f .result) (b .pre) (f .ensures .0) g (omega arith)))
 
 add-t4 : tie.Need-add-t4
 add-t4 c = search needs
@@ -24,7 +24,7 @@ returns-2 c =
     let f = c .before .find in
     let b = c .before .before .before in
     let a = b .args in
-    (omega arith, λ fs k g. (field-is fs k (a .l .now) (a .at) (f .result) (b .pre) (f .ensures .0) g, next-begins fs k (a .l .now) (a .at) (f .result) (b .pre) (f .ensures .0) g (omega arith)))
+    (omega arith, λ fs k g. (field-is fs k (a .l .now) (a .at) (f .result) (b .pre) (f .ensures .0) g, next-from fs k (a .l .now) (a .at) (f .result) (b .pre) (f .ensures .0) g (omega arith)))
 
 pub field-from-spec : {M : Type 1} → statement M
 field-from-spec = tie.close (tie.spec find-requires returns add-t4 returns-2)

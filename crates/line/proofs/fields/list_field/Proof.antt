@@ -6,7 +6,7 @@ use borrow.Author.Needs.{needs}
 use borrow.Author.Tests.{eq-eqb, ne-eqb}
 use Rattle.rules.specs.Fields.{listField}
 use Rattle.text.specs.Text.{kindOf, listView}
-use Rattle.line.specs.Begins.{BeginsUnless}
+use Rattle.line.specs.FieldsFrom.{FieldsUnless}
 use Rattle.line.specs.Cursor.{unless}
 use Rattle.line.proofs.fields.list_field.Statement.{statement}
 use Rattle.line.proofs.fields.list_field.Tie as tie
@@ -15,7 +15,7 @@ no-items-requires : tie.Need-no-items-requires
 no-items-requires c κs = search needs
 
 returns : tie.Need-returns
-unfolding unless listView BeginsUnless
+unfolding unless listView FieldsUnless
 returns c =
     let n = c .no-items .ensures in
     let t = c .before .if1 .taken in
@@ -37,7 +37,7 @@ read-list-requires : tie.Need-read-list-requires
 read-list-requires c κs = search needs
 
 returns-2 : tie.Need-returns-2
-unfolding unless BeginsUnless
+unfolding unless FieldsUnless
 returns-2 c =
     let f = c .before .before in
     let g = f .field-from .ensures in

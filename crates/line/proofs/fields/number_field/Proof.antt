@@ -4,13 +4,13 @@ use mathlib.Core.Path.{ap, _∙_}
 use borrow.Author.Needs.{needs}
 use borrow.Author.Tests.{eq-eqb, ne-eqb}
 use Rattle.rules.specs.Fields.{numberField}
-use Rattle.line.specs.Begins.{BeginsUnless}
+use Rattle.line.specs.FieldsFrom.{FieldsUnless}
 use Rattle.line.specs.Cursor.{unless}
 use Rattle.line.proofs.fields.number_field.Statement.{statement}
 use Rattle.line.proofs.fields.number_field.Tie as tie
 
 returns : tie.Need-returns
-unfolding unless BeginsUnless
+unfolding unless FieldsUnless
 returns c = (c .before .before .pre, λ fs k b. (rw (ne-eqb _ _ (c .if1 .taken)), λ z. absurd (c .if1 .taken z)))
 
 field-from-requires : tie.Need-field-from-requires
@@ -29,7 +29,7 @@ number-in-requires : tie.Need-number-in-requires
 number-in-requires c κs = search needs
 
 returns-2 : tie.Need-returns-2
-unfolding unless BeginsUnless
+unfolding unless FieldsUnless
 returns-2 c =
     let f = c .before .before in
     let g = f .field-from .ensures in

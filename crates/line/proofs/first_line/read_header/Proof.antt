@@ -6,8 +6,8 @@ use borrow.Author.Needs.{needs}
 use Rattle.rules.specs.Lines.{splitOn}
 use Rattle.rules.specs.HeaderLine.{headerOf}
 use Rattle.activity.specs.View.{headerView}
-use Rattle.line.specs.Begins.{BeginsUnless}
-use Rattle.line.proofs.Begins.{first-begins}
+use Rattle.line.specs.FieldsFrom.{FieldsUnless}
+use Rattle.line.proofs.FieldsFrom.{first-from}
 use Rattle.line.proofs.Unless.{unless-none, then}
 use Rattle.line.proofs.first_line.read_header.Statement.{statement}
 use Rattle.line.proofs.first_line.read_header.Tie as tie
@@ -49,7 +49,7 @@ number-field-requires-11 : tie.Need-number-field-requires-11
 number-field-requires-11 c κs = search needs
 
 returns : tie.Need-returns
-unfolding headerOf headerView BeginsUnless
+unfolding headerOf headerView FieldsUnless
 returns c =
     let c10 = c .before in
     let c9 = c10 .before in
@@ -64,7 +64,7 @@ returns c =
     let w = c1 .before in
     let l = w .before .before .args .l .now in
     let fs = splitOn 9 l in
-    let b = w .field-from .ensures .1 fs 0 (first-begins l) .1 in
+    let b = w .field-from .ensures .1 fs 0 (first-from l) .1 in
     let b1 = c1 .number-field .ensures .1 fs 1 (λ _. b) in
     let b2 = c2 .number-field2 .ensures .1 fs 2 (b1 .1) in
     let b3 = c3 .number-field3 .ensures .1 fs 3 (b2 .1) in

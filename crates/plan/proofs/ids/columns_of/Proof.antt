@@ -32,6 +32,9 @@ mul-lines c = search needs
 array-write-lines : tie.Need-array-write-lines Inv-loop μ-loop
 array-write-lines c = search needs
 
+cast-ids : tie.Need-cast-ids Inv-loop μ-loop
+cast-ids c = search needs
+
 mul-ids : tie.Need-mul-ids Inv-loop μ-loop
 mul-ids c = search needs
 
@@ -46,7 +49,7 @@ loop-less c = search needs
 
 loop-again : tie.Need-loop-again Inv-loop μ-loop
 loop-again c =
-    let l = c .before .before in
+    let l = c .before .before .before in
     let list = l .before .args .t1 in
     let m : length list ≡ 64 = search needs in (
       omega arith,
@@ -73,6 +76,7 @@ columns-of-spec =
     array-copy-out-line
     mul-lines
     array-write-lines
+    cast-ids
     mul-ids
     array-write-ids
     add-i
