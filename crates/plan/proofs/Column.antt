@@ -1,33 +1,16 @@
--- Laws of ids in a column: whether one is there, and its line.
+-- The rules' tests of activities are those of their ids.
 -- Assumes nothing.
-use Prim.Native.Nat.{ℕ, suc, _+_, _≤_, _<_}
+use Prim.Native.Nat.{ℕ, suc}
 use mathlib.Core.Path.{_≡_, refl, sym, ap}
 use mathlib.Core.Bool.{Bool, true, false, cond, _||_}
 use mathlib.Core.List.{List, [], _∷_, map}
-use native.Mathlib.Numerals.{add-one}
 use lib.Dec.{eqb}
-use lib.ListN.{length, take, drop, getD}
 use borrow.Author.Tests.{eq-eqb, ne-eqb, eqb-true, eqb-false}
 use Rattle.rules.specs.Plan.{Activity}
 use Rattle.rules.specs.Tests.{anyOf}
 use Rattle.rules.specs.Reading.{hasId, lineNumber}
-use Rattle.plan.specs.Collected.{lineAmong}
-use Rattle.plan.proofs.Fronts.{front-cons, front-end}
+use Rattle.order.specs.Lines.{lineAmong}
 
-module _ (ids : List ℕ) (n : ℕ) (h : n ≤ length ids) (id : ℕ) where
-  pub line-hit : (i line : ℕ) → i < n → getD ids i 0 ≡ id → lineAmong id line (drop i (take n ids)) ≡ line
-  unfolding lineAmong
-  line-hit i line k e = rw (front-cons ids n h i 0 k, eq-eqb _ _ e)
-
-  pub line-miss : (i line : ℕ) → i < n → (getD ids i 0 ≡ id → ⊥) → lineAmong id line (drop i (take n ids)) ≡ lineAmong id (line + 1) (drop (i + 1) (take n ids))
-  unfolding lineAmong
-  line-miss i line k e = rw (front-cons ids n h i 0 k, ne-eqb _ _ e, add-one line)
-
-  pub line-end : (i line : ℕ) → n ≤ i → lineAmong id line (drop i (take n ids)) ≡ 0
-  unfolding lineAmong
-  line-end i line k = rw (front-end ids n h i k)
-
--- the rules' tests of activities are those of their ids
 pub eqb-turn : (a b : ℕ) → eqb a b ≡ eqb b a
 eqb-turn a b = go (eqb a b) refl
   where

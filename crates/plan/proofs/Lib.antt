@@ -1,5 +1,4 @@
 pub mod LineAt
-pub mod Fronts
 pub mod Column
 pub mod Ordering
 pub mod Places

@@ -20,8 +20,8 @@ use Rattle.line.specs.Formed.{isFormed}
 use Rattle.plan.specs.Collected.{saidBy}
 use Rattle.plan.specs.LinesView.{Collected, activitiesView, linesView, linesFrom}
 use Rattle.plan.specs.declared.file.Lines.{Lines}
-use Rattle.plan.specs.declared.order.Line.{Line}
-use Rattle.plan.proofs.Fronts.{map-append}
+use Rattle.order.specs.declared.lines.Line.{Line}
+use Rattle.order.proofs.Fronts.{map-append}
 use Rattle.plan.proofs.Column.{has-ids}
 use Rattle.plan.proofs.Ordering.{ids-said}
 

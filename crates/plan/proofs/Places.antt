@@ -19,7 +19,7 @@ use Rattle.plan.specs.View.{activitiesIn, PlanSaid, planView}
 use Rattle.plan.specs.LineAt.{activityIn}
 use Rattle.plan.specs.Collected.{amongIds, idIn, foundAt}
 use Rattle.plan.specs.declared.Plan.{Plan as PlanStruct}
-use Rattle.plan.proofs.Fronts.{front-cons, front-end}
+use Rattle.order.proofs.Fronts.{front-cons, front-end}
 use Rattle.plan.proofs.Column.{eqb-turn}
 
 -- each of the first n from i on

@@ -7,7 +7,8 @@ use lib.Dec.{eqb}
 use lib.ListN.{length, take}
 use Rattle.rules.specs.Plan.{Header, Activity}
 use Rattle.rules.specs.Reading.{Reading, accepted, no, activityLines}
-use Rattle.plan.specs.Collected.{idOf, saidBy, LinesIn}
+use Rattle.order.specs.Lines.{idOf}
+use Rattle.plan.specs.Collected.{saidBy, LinesIn}
 use Rattle.plan.specs.declared.file.Lines.{Lines}
 
 -- lines of s, and their ids

@@ -8,9 +8,7 @@ ghost use Rattle.plan.specs.Reading.{inOrder, readingView};
 pub mod accessor;
 mod after;
 mod file;
-mod ids;
 mod judge;
-mod order;
 
 use activity::Header;
 use file::read_activities;

@@ -10,7 +10,7 @@ use lib.ListN.{take, drop}
 use Rattle.rules.specs.Bytes.{bytes}
 use Rattle.activity.specs.View.{headerView, activityView}
 use Rattle.plan.specs.LinesView.{activitiesView}
-use Rattle.plan.specs.declared.order.Line.{Line}
+use Rattle.order.specs.declared.lines.Line.{Line}
 use Rattle.plan.proofs.LineAt.{line-in, line-fields}
 use Rattle.line.proofs.Unless.{unless-value, unless-fault}
 use Rattle.plan.proofs.Lining.{form-is, line-2, line-5, line-fault, line-6, line-on, counted, from-refused, from-pushed, pushed-view, has-collected}

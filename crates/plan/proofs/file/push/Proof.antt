@@ -5,8 +5,8 @@ use mathlib.Core.List.{_∷_, []}
 use native.Mathlib.Omega.{arith}
 use borrow.Author.Needs.{needs}
 use lib.ListN.{length, take, length-set}
-use Rattle.plan.proofs.Fronts.{front-set, map-append}
-use Rattle.plan.specs.Collected.{idOf}
+use Rattle.order.proofs.Fronts.{front-set, map-append}
+use Rattle.order.specs.Lines.{idOf}
 use Rattle.plan.proofs.Ordering.{append-in}
 use Rattle.plan.proofs.file.push.Statement.{statement}
 use Rattle.plan.proofs.file.push.Tie as tie

@@ -6,10 +6,10 @@ use mathlib.Core.List.{map}
 use native.Mathlib.Omega.{arith}
 use borrow.Author.Needs.{needs}
 use lib.ListN.{length, take, length-set}
-use Rattle.plan.specs.Collected.{blankLine, atOf, idOf}
-use Rattle.plan.proofs.Fronts.{front-more, front-set, map-append}
-use Rattle.plan.proofs.ids.columns_of.Statement.{statement}
-use Rattle.plan.proofs.ids.columns_of.Tie as tie
+use Rattle.order.specs.Lines.{blankLine, atOf, idOf}
+use Rattle.order.proofs.Fronts.{front-more, front-set, map-append}
+use Rattle.order.proofs.ids.columns_of.Statement.{statement}
+use Rattle.order.proofs.ids.columns_of.Tie as tie
 
 abbrev Inv-loop : tie.InvT-loop
 Inv-loop n list lines₀ ids₀ i₀ lines ids i = (i ≤ n) × (length lines ≡ 64) × (length ids ≡ 64) × (take i lines ≡ map atOf (take i list)) × (take i ids ≡ map idOf (take i list))

@@ -3,8 +3,8 @@ ghost use mathlib.Core.Path.{_≡_};
 ghost use mathlib.Core.List.{map};
 ghost use Prim.Native.Nat.{_≤_};
 ghost use lib.ListN.{length, take};
-ghost use Rattle.plan.specs.Collected.{atOf, idOf, lineAmong};
-use crate::order::Line;
+ghost use Rattle.order.specs.Lines.{atOf, idOf, lineAmong};
+use crate::lines::Line;
 use rules::PLACES;
 
 // The line of the activity of this id, where the first n stand from line 2 on; 0 where there is none.

@@ -4,10 +4,10 @@ use Prim.Native.Nat.{_+_, _-_, _≤_}
 use mathlib.Core.Path.{_≡_, refl, sym, _∙_}
 use native.Mathlib.Omega.{arith}
 use lib.ListN.{take, drop}
-use Rattle.plan.specs.Collected.{lineAmong}
-use Rattle.plan.proofs.Column.{line-hit, line-miss, line-end}
-use Rattle.plan.proofs.ids.line_of.Statement.{statement}
-use Rattle.plan.proofs.ids.line_of.Tie as tie
+use Rattle.order.specs.Lines.{lineAmong}
+use Rattle.order.proofs.Column.{line-hit, line-miss, line-end}
+use Rattle.order.proofs.ids.line_of.Statement.{statement}
+use Rattle.order.proofs.ids.line_of.Tie as tie
 
 abbrev Inv-loop : tie.InvT-loop
 Inv-loop ids n id line₀ i₀ line i = (i ≤ n) × (line ≡ i + 2) × (lineAmong id 2 (take n ids) ≡ lineAmong id line (drop i (take n ids)))
