@@ -2,6 +2,7 @@
 -- Assumes nothing.
 use Prim.Native.Nat.{ℕ, _<_}
 use mathlib.Core.Path.{_≡_, refl, sym, _∙_, ap}
+use mathlib.Core.Logic.{_≢_}
 use mathlib.Core.List.{List}
 use native.Mathlib.Omega.{arith}
 use borrow.Author.Tests.{eq-eqb, ne-eqb}
@@ -22,7 +23,20 @@ use Rattle.plan.specs.Reading.{inOrder, readingView}
 use Rattle.plan.specs.declared.Plan.{Plan as PlanStruct}
 use Rattle.plan.specs.declared.Reading.{Reading as ReadingStruct}
 use Rattle.plan.proofs.Places.{place-is, place-count}
-use Rattle.calls.specs.Read.{AcceptedAs, ReadAs}
+use Rattle.placing.specs.Places.{Placeable}
+
+-- the bytes s are accepted as a plan that the struct q holds in the scheduling order
+pub record AcceptedAs (s : List ℕ) (q : PlanStruct) : Type 0 where
+  pub plan : Plan
+  pub read : reading s ≡ accepted plan
+  pub view : planView s q ≡ ordered plan
+  pub count : length (plan .activities) ≡ q .count
+  pub placeable : Placeable s q
+
+-- what the struct r says of the bytes s
+pub record ReadAs (s : List ℕ) (r : ReadingStruct) : Type 0 where
+  pub refused : r .number ≢ 0 → reading s ≡ no (r .number) (r .line)
+  pub accepted : r .number ≡ 0 → AcceptedAs s (r .plan)
 
 -- the file is accepted as a plan whose lines the struct holds in order
 record Held (s : List ℕ) (q : PlanStruct) : Type 0 where

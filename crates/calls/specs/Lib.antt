@@ -1,4 +1,2 @@
 pub mod Called
 pub mod Promise
--- For the calls' own functions.
-pub mod Read

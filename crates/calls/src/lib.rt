@@ -7,10 +7,8 @@ ghost use Rattle.plan.specs.View.{planView};
 ghost use Rattle.rules.specs.Runs.{runsFrom};
 ghost use Rattle.placing.specs.Places.{Placeable};
 ghost use Rattle.schedule.specs.Search.{meetsIn};
-ghost use Rattle.calls.specs.Read.{ReadAs};
 ghost use Rattle.calls.specs.Called.{OutcomeCalled, SliceFilled, ReportCalled, ColumnsFilled, StartsCalled, OutputCalled};
 use plan::Plan;
-use plan::Reading;
 pub use report::whole::REPORT;
 use rules::ALL_CONDITIONS;
 use rules::CountAnswer;
@@ -25,18 +23,11 @@ fn refuse(number: u32, line: u32) -> CountAnswer
     CountAnswer::No(Refusal { number, line })
 }
 
-// What the plan's bytes say.
-fn read(bytes: &[u8]) -> Reading
-    ensures { λ r. ⌜ ReadAs (now (bytes .entry)) r ⌝ }
-{
-    plan::read(bytes)
-}
-
 // The outcome of the activity at a place: placed with its start, or refused with its letters.
 pub fn outcome(bytes: &[u8], place: usize) -> OutcomeAnswer
     ensures { λ r. ⌜ OutcomeCalled (now (bytes .entry)) place r ⌝ }
 {
-    let reading = read(bytes);
+    let reading = plan::read(bytes);
     if reading.number != 0 {
         let refusal = Refusal {
             number: reading.number,
@@ -69,7 +60,7 @@ fn hand_over(text: &[u8], out: &mut [u8]) -> CountAnswer
 pub fn report(bytes: &[u8], out: &mut [u8]) -> CountAnswer
     ensures { λ r. ⌜ ReportCalled (now (bytes .entry)) (now (out .entry)) r (now (out .exit)) ⌝ }
 {
-    let reading = read(bytes);
+    let reading = plan::read(bytes);
     if reading.number != 0 {
         return refuse(reading.number, reading.line);
     }
@@ -129,7 +120,7 @@ pub fn starts(
 ) -> CountAnswer
     ensures { λ r. ⌜ StartsCalled (now (bytes .entry)) place set (now (firsts .entry)) (now (lasts .entry)) r (now (firsts .exit)) (now (lasts .exit)) ⌝ }
 {
-    let reading = read(bytes);
+    let reading = plan::read(bytes);
     if reading.number != 0 {
         return refuse(reading.number, reading.line);
     }
@@ -150,9 +141,9 @@ pub fn output(bytes: &[u8], out: &mut [u8; REPORT]) -> usize
     // so that a caller can lend the front of `out`
     ensures { λ r. ⌜ (r ≤ length (now (out .exit))) × (r ≡ length (take r (now (out .exit)))) ⌝ }
 {
-    let reading = read(bytes);
+    let reading = plan::read(bytes);
     if reading.number != 0 {
-        return report::line::put_no(out, 0, reading.number as u64, reading.line as u64);
+        return report::lines::put_no(out, 0, reading.number as u64, reading.line as u64);
     }
     report::whole::put_report(bytes, reading.plan, out)
 }

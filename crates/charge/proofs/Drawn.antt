@@ -74,7 +74,7 @@ module _ (h : HeaderStruct) (ticks amounts : List ℕ) where
 
   -- what bounds give of a row
   pub row-within : (n i : ℕ) (o : OwnDraw) → o ≡ rowDraw h ticks amounts i → TicksBounded ticks n → AmountsBounded amounts n → i < n → (o .heat ≤ o .start) × (o .start ≤ o .end) × (o .end ≤ 4096) × (o .draw ≤ 1000000) × (o .heater ≡ h .heater)
-  row-within n i o e b c l = rw e (b .heats i l, b .starts i l, b .ends i l, c .draw i l, refl)
+  row-within n i o e b c l = rw e (b .heats i l, b .start-end i l, b .ends i l, c .draw i l, refl)
 
   draw-most : (o : OwnDraw) (t : ℕ) → o .draw ≤ 1000000 → o .heater ≤ 1000000 → drawOf o t ≤ 1000000
   unfolding drawOf

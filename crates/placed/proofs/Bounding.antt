@@ -43,7 +43,7 @@ module _ (h : Header) (ticks amounts settings units : List ℕ) (n : ℕ) (place
       record {
         few = few;
         heats = λ i k. let e = row-at _ n placed held i k in omega (arith, e .2 .ticksSay .heat, e .2 .ticksSay .start);
-        starts = λ i k. let e = row-at _ n placed held i k in omega (arith, e .2 .ticksSay .start, e .2 .ticksSay .ends);
+        start-end = λ i k. let e = row-at _ n placed held i k in omega (arith, e .2 .ticksSay .start, e .2 .ticksSay .ends);
         ends = λ i k. let e = row-at _ n placed held i k in omega (arith, e .2 .ticksSay .ends, reached .inTime (e .0) (e .1), reached .header .horizon .1);
       }
 

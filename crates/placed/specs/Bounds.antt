@@ -7,7 +7,7 @@ use Rattle.placed.specs.Tables.{heatAt, startAt, endAt, enginesAt, peakA
 pub record TicksBounded (ticks : List ℕ) (n : ℕ) : Type 0 where
   pub few : n ≤ 64
   pub heats : (i : ℕ) → i < n → heatAt ticks i ≤ startAt ticks i
-  pub starts : (i : ℕ) → i < n → startAt ticks i ≤ endAt ticks i
+  pub start-end : (i : ℕ) → i < n → startAt ticks i ≤ endAt ticks i
   pub ends : (i : ℕ) → i < n → endAt ticks i ≤ 4096
 
 -- the amounts of the first n rows are at most a million each

@@ -6,19 +6,7 @@ ghost use lib.Dec.{eqb};
 ghost use lib.ListN.{length, take};
 ghost use Rattle.rules.specs.Tests.{anyOf};
 ghost use Rattle.placed.specs.Written.{Written};
-
-// Whether the unit is among the first `count`.
-fn has_unit(units: &[u32; 32], count: usize, unit: u32) -> bool
-    requires { ⌜ (count ≤ 32) × (length (now units) ≡ 32) ⌝ }
-    ensures { λ r. ⌜ r ≡ anyOf (eqb unit) (take count (now (units .entry))) ⌝ }
-{
-    for i in 0..count {
-        if unit == units[i] {
-            return true;
-        }
-    }
-    false
-}
+use rules::among;
 
 // Writes 1 for each unit that is among the first `count`, 0 for each other, from `base` on.
 pub fn put_units(units: &[u32; 32], count: usize, base: usize, table: &mut [u8])
@@ -27,7 +15,7 @@ pub fn put_units(units: &[u32; 32], count: usize, base: usize, table: &mut [u8])
 {
     let mut u = 0;
     while u < 32 {
-        table[base + u] = has_unit(units, count, u as u32) as u8;
+        table[base + u] = among(units, count, u as u32) as u8;
         u += 1;
     }
 }

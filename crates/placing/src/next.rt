@@ -5,7 +5,7 @@ use activity::Header;
 use placed::put_candidate;
 use placed::put_start;
 use plan::Plan;
-use plan::line::activity_at;
+use plan::accessor::activity_at;
 use rules::Outcome;
 use rules::PLACES;
 use rules::TICKS;

@@ -18,11 +18,12 @@ use Rattle.text.specs.Text.{indexOf}
 use Rattle.plan.specs.View.{activitiesIn, PlanSaid}
 use Rattle.plan.specs.LineAt.{activityIn, LineSays}
 use Rattle.plan.specs.Reading.{inOrder, readingView}
-use Rattle.plan.specs.Collected.{lineAmong, idIn, atOf, idOf, saidBy, LinesIn, orderLines, foundAt}
+use Rattle.order.specs.Lines.{lineAmong, atOf, idOf, orderLines}
+use Rattle.plan.specs.Collected.{idIn, saidBy, LinesIn, foundAt}
 use Rattle.plan.specs.LinesView.{Collected, activitiesView, linesView}
 use Rattle.plan.specs.declared.Reading.{Reading as ReadingStruct}
 use Rattle.plan.specs.declared.file.Lines.{Lines}
-use Rattle.plan.specs.declared.order.Line.{Line}
+use Rattle.order.specs.declared.lines.Line.{Line}
 use Rattle.plan.proofs.Column.{line-ids}
 use Rattle.plan.proofs.Ordering.{order-in, view-order, ids-said, says-at}
 use Rattle.plan.proofs.Cutting.{lines-last, not-ended}

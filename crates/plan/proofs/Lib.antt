@@ -1,7 +1,4 @@
-pub mod Unless
 pub mod LineAt
-pub mod Lists
-pub mod Fronts
 pub mod Column
 pub mod Ordering
 pub mod Places

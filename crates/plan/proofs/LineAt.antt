@@ -14,10 +14,10 @@ use Rattle.rules.specs.ActivityLine.{activityOf}
 use Rattle.rules.proofs.Says.{Says, said, faulted}
 use Rattle.rules.proofs.FieldFacts.{number-says}
 use Rattle.text.specs.Text.{indexOf}
-use Rattle.plan.specs.Cursor.{unless}
+use Rattle.line.specs.Cursor.{unless}
 use Rattle.plan.specs.LineAt.{lineAt, valueIn, activityIn}
 use Rattle.plan.specs.Collected.{saidBy, LineIn}
-use Rattle.plan.specs.declared.order.Line.{Line}
+use Rattle.order.specs.declared.lines.Line.{Line}
 
 -- up to the next LF
 pub line-to : (s : List ℕ) (at end : ℕ) → end ≡ at + indexOf 10 (drop at s) → take (end - at) (drop at s) ≡ lineAt s at

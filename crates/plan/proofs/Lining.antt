@@ -5,6 +5,7 @@ use mathlib.Core.Path.{_≡_, refl, _∙_}
 use mathlib.Core.Bool.{true, false}
 use mathlib.Core.List.{List, [], _∷_, _++_}
 use native.Mathlib.Omega.{arith}
+use lib.Dec.{eqb}
 use lib.ListN.{length, take, length-map}
 use lib.Seq.{length-take-le}
 use borrow.Author.Tests.{le-leb, lt-leb, eq-eqb, ne-eqb}
@@ -15,11 +16,12 @@ use Rattle.rules.specs.Fields.{value, fault}
 use Rattle.rules.specs.Plan.{Header, Activity}
 use Rattle.rules.specs.ActivityLine.{activityOf}
 use Rattle.rules.specs.Reading.{no, formed, onLine, hasId, activityLines}
-use Rattle.plan.specs.Collected.{isId, saidBy}
-use Rattle.plan.specs.LinesView.{isFormed, Collected, activitiesView, linesView, linesFrom}
+use Rattle.line.specs.Formed.{isFormed}
+use Rattle.plan.specs.Collected.{saidBy}
+use Rattle.plan.specs.LinesView.{Collected, activitiesView, linesView, linesFrom}
 use Rattle.plan.specs.declared.file.Lines.{Lines}
-use Rattle.plan.specs.declared.order.Line.{Line}
-use Rattle.plan.proofs.Fronts.{map-append}
+use Rattle.order.specs.declared.lines.Line.{Line}
+use Rattle.order.proofs.Fronts.{map-append}
 use Rattle.plan.proofs.Column.{has-ids}
 use Rattle.plan.proofs.Ordering.{ids-said}
 
@@ -92,5 +94,5 @@ unfolding formed
 form-not word count line e = rw e
 
 -- the id of an earlier line
-pub has-collected : (h : Header) (s : List ℕ) (t : Lines) → Collected h s t → (id : ℕ) → hasId id (activitiesView h s t) ≡ anyOf (isId id) (take (t .count) (t .ids))
+pub has-collected : (h : Header) (s : List ℕ) (t : Lines) → Collected h s t → (id : ℕ) → hasId id (activitiesView h s t) ≡ anyOf (eqb id) (take (t .count) (t .ids))
 has-collected h s t g id = rw (g .their-ids, ids-said h s (take (t .count) (t .list)) (g .said)) (has-ids (saidBy h s) id (take (t .count) (t .list)))

@@ -17,9 +17,10 @@ use Rattle.rules.specs.Reading.{hasId, misplaced}
 use Rattle.activity.specs.View.{headerView}
 use Rattle.plan.specs.View.{activitiesIn, PlanSaid, planView}
 use Rattle.plan.specs.LineAt.{activityIn}
-use Rattle.plan.specs.Collected.{isId, amongIds, idIn, foundAt}
+use Rattle.plan.specs.Collected.{amongIds, idIn, foundAt}
 use Rattle.plan.specs.declared.Plan.{Plan as PlanStruct}
-use Rattle.plan.proofs.Fronts.{front-cons, front-end}
+use Rattle.order.proofs.Fronts.{front-cons, front-end}
+use Rattle.plan.proofs.Column.{eqb-turn}
 
 -- each of the first n from i on
 module _ (p : ℕ → Bool) (xs : List ℕ) (n : ℕ) (h : n ≤ length xs) where
@@ -79,11 +80,11 @@ module _ (h : Header) (s lines : List ℕ) where
     id-at i m = sym (getD-take n ids i 0 m) ∙ ap (λ q. getD q i 0) e ∙ map-at (idIn h s) 0 lines n i m l
 
     among-before : (i : ℕ) → i ≤ n → (id : ℕ) → hasId id (before i) ≡ amongIds (take i ids) id
-    unfolding hasId anyOf amongIds before isId
+    unfolding hasId anyOf amongIds before
     among-before zero m id = refl
     among-before (suc i) m id =
         let b : i < length ids = omega arith in
-        rw (take-suc ids i 0 b, any-last, id-at i (omega arith)) (ap (λ q. eqb (idIn h s (getD lines i 0)) id || q) (among-before i (omega arith) id))
+        rw (take-suc ids i 0 b, any-last, id-at i (omega arith), eqb-turn (idIn h s (getD lines i 0)) id) (ap (λ q. eqb id (idIn h s (getD lines i 0)) || q) (among-before i (omega arith) id))
 
     -- the test of place i
     tests : (i : ℕ) → i ≤ n → (xs : List ℕ) → every (λ id. hasId id (before i)) xs ≡ every (amongIds (take i ids)) xs

@@ -1,28 +1,20 @@
--- Activity lines as the reader collects them, in an array, with a column of their ids.
-use Prim.Native.Nat.{ℕ, suc}
+-- What activity lines say, as the reader collects them.
+use Prim.Native.Nat.{ℕ}
 use mathlib.Core.Path.{_≡_}
 use mathlib.Core.Bool.{Bool, cond}
 use mathlib.Core.List.{List, [], _∷_}
 use mathlib.Core.Option.{Option, none, some}
-use lib.Dec.{leb, ltb, eqb}
+use lib.Dec.{ltb, eqb}
 use lib.ListN.{getD}
 use Rattle.rules.specs.Tests.{anyOf}
 use Rattle.rules.specs.Plan.{Header, Activity}
 use Rattle.plan.specs.LineAt.{activityIn, LineSays}
-use Rattle.plan.specs.declared.order.Line.{Line}
+use Rattle.order.specs.declared.lines.Line.{Line}
 
 -- ---- ids
 
-unfoldable pub isId : ℕ → ℕ → Bool
-isId id x = eqb x id
-
 unfoldable pub amongIds : List ℕ → ℕ → Bool
-amongIds ids id = anyOf (isId id) ids
-
--- the line of this id, where the ids are those of the lines from n on
-unfoldable pub lineAmong : ℕ → ℕ → List ℕ → ℕ
-lineAmong id n [] = 0
-lineAmong id n (x ∷ xs) = cond (eqb x id) n (lineAmong id (suc n) xs)
+amongIds ids id = anyOf (eqb id) ids
 
 -- the id that the line at a byte of s says
 abbrev pub idIn : Header → List ℕ → ℕ → ℕ
@@ -30,19 +22,9 @@ idIn h s at = activityIn h s at .id
 
 -- ---- lines
 
-abbrev pub atOf : Line → ℕ
-atOf l = l .at
-
-abbrev pub idOf : Line → ℕ
-idOf l = l .id
-
 -- the activity that a line says
 abbrev pub saidBy : Header → List ℕ → Line → Activity
 saidBy h s l = activityIn h s (l .at)
-
--- the line that stands for an entry outside an array
-abbrev pub blankLine : Line
-blankLine = record { at = 0; id = 0; priority = 0 }
 
 -- it is a line of s and says an activity, of this id and this priority
 pub record LineIn (h : Header) (s : List ℕ) (l : Line) : Type 0 where
@@ -53,15 +35,6 @@ pub record LineIn (h : Header) (s : List ℕ) (l : Line) : Type 0 where
 unfoldable pub LinesIn : Header → List ℕ → List Line → Type 0
 LinesIn h s [] = Unit {0}
 LinesIn h s (l ∷ rest) = LineIn h s l × LinesIn h s rest
-
--- the scheduling order
-unfoldable pub insertLine : Line → List Line → List Line
-insertLine a [] = a ∷ []
-insertLine a (b ∷ bs) = cond (leb (a .priority) (b .priority)) (a ∷ b ∷ bs) (b ∷ insertLine a bs)
-
-unfoldable pub orderLines : List Line → List Line
-orderLines [] = []
-orderLines (a ∷ rest) = insertLine a (orderLines rest)
 
 -- ---- `after`
 

@@ -1,6 +1,5 @@
 pub mod LineAt
 pub mod View
 pub mod Reading
-pub mod Cursor
 pub mod Collected
 pub mod LinesView

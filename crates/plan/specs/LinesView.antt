@@ -1,20 +1,15 @@
 -- What the lines read so far say.
 use Prim.Native.Nat.{ℕ, _+_, _≤_}
 use mathlib.Core.Path.{_≡_}
-use mathlib.Core.Bool.{Bool, cond, _&&_}
-use mathlib.Core.List.{List, [], map}
+use mathlib.Core.Bool.{cond}
+use mathlib.Core.List.{List, map}
 use lib.Dec.{eqb}
-use lib.ListN.{length, getD, take}
-use Rattle.rules.specs.Bytes.{same}
-use Rattle.rules.specs.Lines.{splitOn}
+use lib.ListN.{length, take}
 use Rattle.rules.specs.Plan.{Header, Activity}
 use Rattle.rules.specs.Reading.{Reading, accepted, no, activityLines}
-use Rattle.plan.specs.Collected.{idOf, saidBy, LinesIn}
+use Rattle.order.specs.Lines.{idOf}
+use Rattle.plan.specs.Collected.{saidBy, LinesIn}
 use Rattle.plan.specs.declared.file.Lines.{Lines}
-
--- check 2 of a line without its LF
-unfoldable pub isFormed : List ℕ → ℕ → List ℕ → Bool
-isFormed word count l = eqb (length (splitOn 9 l)) count && same (getD (splitOn 9 l) 0 []) word
 
 -- lines of s, and their ids
 pub record Collected (h : Header) (s : List ℕ) (t : Lines) : Type 0 where

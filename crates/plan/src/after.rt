@@ -11,18 +11,18 @@ ghost use Rattle.plan.specs.View.{PlanSaid, planView};
 ghost use Rattle.plan.specs.LineAt.{activityIn, LineSays};
 ghost use Rattle.plan.specs.Collected.{amongIds, idIn, foundAt};
 use crate::Plan;
-use crate::fields::eight_of;
-use crate::ids::has_id;
-use crate::line::after_at;
+use crate::accessor::after_at;
+use line::fields::eight_of;
+use rules::among;
 
 // Whether each of the first `count` ids of after is among the first n.
-fn all_among<'a>(after: &'a [u32], count: usize, ids: &'a [u16], n: usize) -> bool
+fn all_among<'a>(after: &'a [u32], count: usize, ids: &'a [u32], n: usize) -> bool
     requires { ⌜ (count ≤ length (now after)) × (n ≤ length (now ids)) ⌝ }
     ensures { λ r. ⌜ r ≡ every (amongIds (take n (now (ids .entry)))) (take count (now (after .entry))) ⌝ }
 {
     let mut i = 0;
     while i < count {
-        if !has_id(ids, n, after[i]) {
+        if !among(ids, n, after[i]) {
             return false;
         }
         i += 1;
@@ -31,7 +31,7 @@ fn all_among<'a>(after: &'a [u32], count: usize, ids: &'a [u16], n: usize) -> bo
 }
 
 // Whether each id that the line at `at` names in `after` is among the first n.
-fn follows<'a>(s: &'a [u8], at: u16, ids: &'a [u16], n: usize) -> bool
+fn follows<'a>(s: &'a [u8], at: u16, ids: &'a [u32], n: usize) -> bool
     requires { ⌜ (at ≤ length (now s)) × (n ≤ length (now ids)) ⌝ }
     ensures { λ r. ⌜ ((h : HeaderValue) → LineSays h (now (s .entry)) at → r ≡ every (amongIds (take n (now (ids .entry)))) (activityIn h (now (s .entry)) at .after)) ⌝ }
 {
@@ -41,7 +41,7 @@ fn follows<'a>(s: &'a [u8], at: u16, ids: &'a [u16], n: usize) -> bool
 }
 
 // The least place whose `after` names no activity at an earlier place, or the number of places; the ids are those by place.
-pub fn first_misplaced<'a>(s: &'a [u8], p: Plan, ids: &'a [u16]) -> usize
+pub fn first_misplaced<'a>(s: &'a [u8], p: Plan, ids: &'a [u32]) -> usize
     requires { ⌜ PlanSaid (now s) p × (p .count ≤ length (now ids)) × (take (p .count) (now ids) ≡ map (idIn (headerView (p .header)) (now s)) (take (p .count) (p .lines))) ⌝ }
     ensures { λ r. ⌜ misplaced [] (planView (now (s .entry)) p .activities) ≡ foundAt (headerView (p .header)) (now (s .entry)) (p .lines) (p .count) r ⌝ }
 {

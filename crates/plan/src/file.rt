@@ -10,35 +10,23 @@ ghost use Rattle.rules.specs.Reading.{activityLines};
 ghost use Rattle.text.specs.Text.{indexOf};
 ghost use Rattle.activity.specs.View.{headerView};
 ghost use Rattle.plan.specs.Collected.{LineIn};
-ghost use Rattle.plan.specs.LinesView.{Collected, isFormed, linesView, linesFrom};
-use crate::activity_line::read_activity;
-use crate::ids::has_id;
-use crate::order::Line;
+ghost use Rattle.plan.specs.LinesView.{Collected, linesView, linesFrom};
 use activity::Header;
+use line::activity_line::read_activity;
+use line::fields::formed;
+use order::lines::Line;
 use rules::PLACES;
-use text::field::field_at;
-use text::field::field_count;
+use rules::among;
 use text::field::find;
 use text::word::ACT;
-use text::word::is;
 
 // The first `count` activity lines, in order, and their ids; where the number is not 0, the refusal's number and line.
 pub struct Lines {
     pub number: u32,
     pub line: u32,
     pub count: usize,
-    pub ids: [u16; PLACES],
+    pub ids: [u32; PLACES],
     pub list: [Line; PLACES],
-}
-
-// Whether the line l, without its LF, begins with this word and has this many fields.
-pub fn formed(l: &[u8], word: &[u8], count: usize) -> bool
-    ensures { λ r. ⌜ r ≡ isFormed (now (word .entry)) count (now (l .entry)) ⌝ }
-{
-    if field_count(l) != count {
-        return false;
-    }
-    is(field_at(l, 0), word)
 }
 
 // No line read.
@@ -77,7 +65,7 @@ fn push(t: Lines, line: Line) -> Lines
 {
     let n = t.count;
     let mut r = t;
-    r.ids[n] = line.id;
+    r.ids[n] = line.id as u32;
     r.list[n] = line;
     r.count = n + 1;
     r
@@ -104,7 +92,7 @@ fn add_line(t: Lines, s: &[u8], at: usize, end: usize, h: Header) -> Lines
     }
     let a = r.activity;
     let ids = t.ids;
-    if has_id(&ids, n, a.id) {
+    if among(&ids, n, a.id) {
         return refuse(t, 6);
     }
     let line = Line {

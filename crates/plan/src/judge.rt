@@ -10,11 +10,11 @@ use crate::Plan;
 use crate::Reading;
 use crate::after::first_misplaced;
 use crate::file::Lines;
-use crate::ids::columns_of;
-use crate::ids::line_of;
-use crate::order::ordered;
 use activity::Header;
 use charge::out_of_reach;
+use order::ids::columns_of;
+use order::ids::line_of;
+use order::lines::ordered;
 use rules::PLACES;
 
 // A refusal, with no plan.

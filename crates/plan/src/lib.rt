@@ -5,22 +5,17 @@ ghost use Rattle.rules.specs.Reading.{reading};
 ghost use Rattle.plan.specs.View.{PlanSaid};
 ghost use Rattle.plan.specs.Reading.{inOrder, readingView};
 
-mod activity_line;
+pub mod accessor;
 mod after;
-mod fields;
 mod file;
-mod first_line;
-mod ids;
 mod judge;
-pub mod line;
-mod order;
 
 use activity::Header;
-use file::formed;
 use file::read_activities;
-use first_line::read_header;
 use judge::judge;
 use judge::refusal;
+use line::fields::formed;
+use line::first_line::read_header;
 use rules::PLACES;
 use text::field::find;
 use text::word::PLAN;

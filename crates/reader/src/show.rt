@@ -4,7 +4,7 @@ use activity::Activity;
 use activity::Header;
 use plan::Plan;
 use plan::Reading;
-use plan::line::activity_at;
+use plan::accessor::activity_at;
 
 // Writes x.
 fn print(x: u32) {

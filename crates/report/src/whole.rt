@@ -31,7 +31,7 @@ fn put_lines(s: &[u8], plan: Plan, answers: &[u16; PLACES], out: &mut [u8]) -> u
     while k < n {
         let activity = candidate_at(s, plan, k);
         let outcome = outcome_of(answers[k]);
-        at = super::line::put_outcome(out, at, activity.id, activity.duration, outcome);
+        at = super::lines::put_outcome(out, at, activity.id, activity.duration, outcome);
         k += 1;
     }
     at
@@ -54,7 +54,7 @@ fn put_finished<'a>(
     let refused = count - n;
     let charge = charge::last_charge(header, ticks, amounts, n);
     let volume = total_volume(amounts, n);
-    super::line::put_end(out, at, n as u64, refused as u64, charge, volume)
+    super::lines::put_end(out, at, n as u64, refused as u64, charge, volume)
 }
 
 // Writes the report of a plan, whose lines are those of s, and answers its length.

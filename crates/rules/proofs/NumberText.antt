@@ -14,13 +14,13 @@ use Rattle.rules.specs.Number.{isDigit, leadingZero, isNumber, valueFrom
 use Rattle.rules.proofs.Decimal.{digits-low, digits-high}
 use Rattle.rules.proofs.Tests.{and-left, and-right, and-both, both-ways}
 
--- room for more digits than x has changes nothing
-more-room : (n x : ℕ) → x < 10 ^ suc n → digitsOf (suc (suc n)) x ≡ digitsOf (suc n) x
+-- more digits than x has change nothing
+pub more-digits : (n x : ℕ) → x < 10 ^ suc n → digitsOf (suc (suc n)) x ≡ digitsOf (suc n) x
 unfolding digitsOf
-more-room zero x h = rw (lt-ltb x 10 h)
-more-room (suc n) x h =
+more-digits zero x h = rw (lt-ltb x 10 h)
+more-digits (suc n) x h =
     let k : x < 10 ^ suc n * 10 = rw pow-suc at h in
-    rw (more-room n (x / 10) (omega arith))
+    rw (more-digits n (x / 10) (omega arith))
 
 decimal-low : (x : ℕ) → x < 10 → decimal x ≡ (48 + x) ∷ []
 unfolding decimal
@@ -32,7 +32,7 @@ unfolding decimal
 decimal-more v d h k l =
     let q : (v * 10 + d) / 10 ≡ v = omega arith in
     let r : (v * 10 + d) % 10 ≡ d = omega arith in
-    rw (digits-high 19 (v * 10 + d) (omega arith), q, r, more-room 18 v (omega arith))
+    rw (digits-high 19 (v * 10 + d) (omega arith), q, r, more-digits 18 v (omega arith))
 
 digit-low : (b : ℕ) → isDigit b ≡ true → 48 ≤ b
 unfolding isDigit

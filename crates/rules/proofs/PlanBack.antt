@@ -29,9 +29,9 @@ module _ (h : Header) (xs : List Activity) (g : HeaderFormed h) (few : length xs
   activities-back earlier [] n more e = rw (sym (append-nil earlier) ∙ e, add-zero)
   activities-back earlier (a ∷ rest) n more e =
       let b = activity-back h a g (each a (rw e at (Memᴰ·append-right earlier (List·Memᴰ·head {x = a} {xs = rest} refl)))) in
-      let room : length earlier < 64 = omega (arith, length-append earlier (a ∷ rest), ap length e) in
+      let few : length earlier < 64 = omega (arith, length-append earlier (a ∷ rest), ap length e) in
       let count : n + suc (length rest) ≡ suc n + length rest = omega arith in
-      rw (b .form, lt-leb 64 (length earlier) room, b .says, new-id earlier a rest (subst Distinct (sym e) ids), count)
+      rw (b .form, lt-leb 64 (length earlier) few, b .says, new-id earlier a rest (subst Distinct (sym e) ids), count)
       (activities-back (earlier ++ (a ∷ [])) rest (suc n) more (append-snoc earlier a rest ∙ e))
 
   -- the lines of the header and of all the activities, and then more lines

@@ -122,7 +122,7 @@ module _ (s : List ℕ) (h : Header) where
       → ((a : Activity) → Begins s h (xs ++ (a ∷ [])) → LinesTell s (activityLines h (xs ++ (a ∷ [])) (suc (suc (suc (length xs)))) rest))
       → LinesTell s (activityLines h xs (suc (suc (length xs))) (lineAt s (suc (suc (length xs))) ∷ rest))
   unfolding activityLines
-  line-tells xs rest E room next =
+  line-tells xs rest E there next =
       by-check (LinesTell s) (formed (bytes "act") 15 l)
       (λ e. refusing (here (act-line (formed-fault (bytes "act") 15 l e))))
       (λ e. let L : LineFormed (bytes "act") 15 l = formed-facts (bytes "act") 15 l e in
@@ -138,16 +138,16 @@ module _ (s : List ℕ) (h : Header) where
       l = lineAt s (suc (suc (length xs)))
 
       here : {k : ℕ} → ActivityFault h xs (lineAt s (suc (suc (length xs)))) k → FileFault s k (suc (suc (length xs)))
-      here f = activity h xs E room f
+      here f = activity h xs E there f
 
       full : 64 ≤ length xs → length xs ≡ 64
       full k = omega (arith, E .few)
 
   activities-tell : (xs : List Activity) (rest : List (List ℕ)) → Begins s h xs → suc (length xs) ≤ length (lines s) → drop (suc (length xs)) (lines s) ≡ rest → LinesTell s (activityLines h xs (suc (suc (length xs))) rest)
   unfolding activityLines planText
-  activities-tell xs [] E room d =
+  activities-tell xs [] E there d =
       told record { begins = E; text = file-joined h xs (lines s) (omega (arith, sym (length-drop (suc (length xs)) (lines s)) ∙ ap length d)) (E .headerLine) (E .activityLine) ∙ joined-lines s }
-  activities-tell xs (l ∷ rest) E room d =
+  activities-tell xs (l ∷ rest) E there d =
       let r = rest-at [] (suc (length xs)) (lines s) d in
       subst (λ (l : List ℕ). LinesTell s (activityLines h xs (suc (suc (length xs))) (l ∷ rest))) (r .1)
       (line-tells xs rest E (r .0) (λ a E. rw (length-more xs a) at (activities-tell (xs ++ (a ∷ [])) rest E (rw (length-more xs a) (r .0)) (rw (length-more xs a) (r .2)))))

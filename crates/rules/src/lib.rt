@@ -1,5 +1,9 @@
-// The numbers and types that the planner's crates share, and the warm-up table.
+// The numbers and types that the planner's crates share, the warm-up table, and a search.
 ghost use mathlib.Core.Path.{_≡_};
+ghost use Prim.Native.Nat.{_≤_};
+ghost use lib.Dec.{eqb};
+ghost use lib.ListN.{length, take};
+ghost use Rattle.rules.specs.Tests.{anyOf};
 ghost use Rattle.rules.specs.Warmup.{warmupAt};
 
 // The most activities that a plan has, and so the most places.
@@ -345,4 +349,17 @@ pub fn warmup_at(minute: u32, start: u32, warm: u32) -> u32
     }
     let q = (minute as u64 + start as u64) % 1440 / 5;
     WARMUP[q as usize]
+}
+
+// Whether x is among the first n.
+pub fn among(xs: &[u32], n: usize, x: u32) -> bool
+    requires { ⌜ n ≤ length (now xs) ⌝ }
+    ensures { λ r. ⌜ r ≡ anyOf (eqb x) (take n (now (xs .entry))) ⌝ }
+{
+    for i in 0..n {
+        if x == xs[i] {
+            return true;
+        }
+    }
+    false
 }

@@ -102,14 +102,14 @@ module _ (pass : ℕ → Bool) (first : Bool) where
           let same : cond (pass t && not (begins pass s (n - s))) 1 0 ≡ d = sym (g ∙ ap (λ (x : Bool). cond (x && not next) 1 0) f ∙ ap (λ (x : Bool). cond (pass t && not x) 1 0) (C .counted .first)) in
           omega (arith, count-down pass s n t e (C .counted .inside), C .counted .count)
 
-      -- a run that is begun has room in front
-      pub column-room : d ≤ to
-      column-room = omega (arith, down, C .most, count-most pass n t (omega (arith, C .counted .inside)))
+      -- a run that is begun has a place in front
+      pub column-front : d ≤ to
+      column-front = omega (arith, down, C .most, count-most pass n t (omega (arith, C .counted .inside)))
 
       -- what is written stands before the others
       pub column-inside : writes first p next ≡ true → to - d < runs
       unfolding writes
-      column-inside w = omega (arith, rw rest-is at down, column-room, C .most, some-run pass t (n - s) (sym f ∙ and-left p _ w))
+      column-inside w = omega (arith, rw rest-is at down, column-front, C .most, some-run pass t (n - s) (sym f ∙ and-left p _ w))
 
   -- all of it
   pub column-all : (n s to runs : ℕ) (next : Bool) (old new : List ℕ) → Column n s to runs next old new → s ≡ 0 → runs ≡ length (runsFrom pass 0 n) → new ≡ sliceAfter (map (column first) (runsFrom pass 0 n)) old

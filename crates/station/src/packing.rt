@@ -10,7 +10,7 @@ use rules::Refusal;
 // 2^32 and 2^40: where the refusal's number and the mark of a placed activity begin.
 const NUMBER: u64 = 4294967296;
 
-const PLACED: u64 = 1099511627776;
+const PLACED_MARK: u64 = 1099511627776;
 
 // A refusal's number and line.
 fn pack_refusal(refused: Refusal) -> u64
@@ -25,7 +25,7 @@ pub fn pack_outcome(answer: OutcomeAnswer) -> u64
 {
     match answer {
         OutcomeAnswer::Answer(outcome) => match outcome {
-            Outcome::Placed(start) => PLACED + start as u64,
+            Outcome::Placed(start) => PLACED_MARK + start as u64,
             Outcome::Refused(set) => set as u64,
         },
         OutcomeAnswer::No(refused) => pack_refusal(refused),

@@ -2,19 +2,12 @@
 -- Assumes nothing.
 use mathlib.Core.Path.{_≡_, sym, ap, _∙_}
 use mathlib.Core.List.{[], _∷_, _++_}
-use Prim.Native.Nat.{ℕ, zero, suc, _+_, _*_, _/_, _%_, _^_, _≤_, _<_}
-use native.Mathlib.Nat.{pow-suc}
+use Prim.Native.Nat.{ℕ, _+_, _/_, _%_, _^_, _≤_, _<_}
 use native.Mathlib.Omega.{arith}
 use lib.ListN.{length}
-use borrow.Author.Tests.{lt-ltb}
-use Rattle.rules.specs.Number.{digitsOf, decimal}
+use Rattle.rules.specs.Number.{decimal}
 use Rattle.rules.proofs.Decimal.{digits-low, digits-high, decimal-length}
-
--- more digits than x has change nothing
-more : (n x : ℕ) → x < 10 ^ suc n → digitsOf (suc (suc n)) x ≡ digitsOf (suc n) x
-unfolding digitsOf
-more zero x h = rw (lt-ltb x 10 h)
-more (suc n) x h = let k : x < 10 ^ suc n * 10 = rw pow-suc at h in rw (more n (x / 10) (omega arith))
+use Rattle.rules.proofs.NumberText.{more-digits}
 
 pub decimal-low : (x : ℕ) → x < 10 → decimal x ≡ (48 + x) ∷ []
 unfolding decimal
@@ -22,7 +15,7 @@ decimal-low x h = digits-low 19 x h
 
 pub decimal-high : (x : ℕ) → 10 ≤ x → x < 2 ^ 64 → decimal x ≡ decimal (x / 10) ++ ((48 + x % 10) ∷ [])
 unfolding decimal
-decimal-high x h k = digits-high 19 x h ∙ ap (λ w. w ++ ((48 + x % 10) ∷ [])) (sym (more 18 (x / 10) (omega arith)))
+decimal-high x h k = digits-high 19 x h ∙ ap (λ w. w ++ ((48 + x % 10) ∷ [])) (sym (more-digits 18 (x / 10) (omega arith)))
 
 pub decimal-most : (x : ℕ) → x < 2 ^ 64 → length (decimal x) ≤ 20
 decimal-most x h = decimal-length 19 x (omega arith)

@@ -4,6 +4,7 @@ use native.Mathlib.Omega.{arith}
 use borrow.Author.Needs.{needs}
 use Rattle.rules.specs.Report.{noLine}
 use Rattle.report.specs.Lines.{noText}
+use Rattle.calls.proofs.Accepted.{read-as}
 use Rattle.calls.proofs.Answering.{output-refused, output-answered}
 use Rattle.calls.proofs.Writing.{printed}
 use Rattle.calls.proofs.output.Statement.{statement}
@@ -25,15 +26,15 @@ returns : tie.Need-returns
 unfolding noLine noText
 returns c =
     let read = c .before .before .before .before .before .before .read in
-    printed _ _ _ _ _ (output-refused _ _ _ (read .ensures .refused (λ e. omega arith))) (c .put-no .ensures .0)
+    printed _ _ _ _ _ (output-refused _ _ _ (read-as (read .result) _ (read .ensures .0) (read .ensures .1) .refused (λ e. omega arith))) (c .put-no .ensures .0)
 
 put-report-requires : tie.Need-put-report-requires
-put-report-requires c κs = let read = c .before .before .before .read in read .ensures .accepted (omega arith) .placeable
+put-report-requires c κs = let read = c .before .before .before .read in read-as (read .result) _ (read .ensures .0) (read .ensures .1) .accepted (omega arith) .placeable
 
 returns-2 : tie.Need-returns-2
 returns-2 c =
     let read = c .before .before .before .before .read in
-    printed _ _ _ _ _ (output-answered _ _ (read .ensures .accepted (omega arith))) (c .put-report .ensures .0)
+    printed _ _ _ _ _ (output-answered _ _ (read-as (read .result) _ (read .ensures .0) (read .ensures .1) .accepted (omega arith))) (c .put-report .ensures .0)
 
 pub output-spec : {M : Type 1} → statement M
 output-spec =

@@ -8,6 +8,7 @@ use lib.ListN.{length-replicate}
 use lib.Seq.{length-take-le}
 use Rattle.rules.specs.Calls.{filling}
 use Rattle.report.proofs.Writing.{wrote-length}
+use Rattle.calls.proofs.Accepted.{read-as}
 use Rattle.calls.proofs.Answering.{report-refused, report-answered}
 use Rattle.calls.proofs.Running.{slice-kept}
 use Rattle.calls.proofs.Writing.{front-is, slice-as}
@@ -21,10 +22,10 @@ refuse-requires : tie.Need-refuse-requires
 refuse-requires c κs = search needs
 
 returns : tie.Need-returns
-returns c = let read = c .before .before .before .read in slice-kept _ _ _ (report-refused _ _ _ (read .ensures .refused (λ e. omega arith)) _) _ _ (c .refuse .ensures)
+returns c = let read = c .before .before .before .read in slice-kept _ _ _ (report-refused _ _ _ (read-as (read .result) _ (read .ensures .0) (read .ensures .1) .refused (λ e. omega arith)) _) _ _ (c .refuse .ensures)
 
 put-report-requires : tie.Need-put-report-requires
-put-report-requires c κs = let read = c .before .before .before .read in read .ensures .accepted (omega arith) .placeable
+put-report-requires c κs = let read = c .before .before .before .read in read-as (read .result) _ (read .ensures .0) (read .ensures .1) .accepted (omega arith) .placeable
 
 array-share-prefix-written : tie.Need-array-share-prefix-written
 array-share-prefix-written c =
@@ -50,7 +51,7 @@ returns-2 c =
     let handed = c .before .before in
     let put = handed .before .before .before in
     let read = put .before .before .before .before .read in
-    slice-as _ _ (report-answered _ _ (read .ensures .accepted (omega arith)) _ ∙ ap (filling _) (sym (front-is _ _ _ _ (put .put-report .ensures .0)))) _ _ _ (handed .hand-over .ensures)
+    slice-as _ _ (report-answered _ _ (read-as (read .result) _ (read .ensures .0) (read .ensures .1) .accepted (omega arith)) _ ∙ ap (filling _) (sym (front-is _ _ _ _ (put .put-report .ensures .0)))) _ _ _ (handed .hand-over .ensures)
 
 pub report-spec : {M : Type 1} → statement M
 report-spec =

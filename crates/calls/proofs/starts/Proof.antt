@@ -2,6 +2,7 @@
 -- Assumes nothing.
 use native.Mathlib.Omega.{arith}
 use borrow.Author.Needs.{needs}
+use Rattle.calls.proofs.Accepted.{read-as}
 use Rattle.calls.proofs.Answering.{starts-refused, starts-beyond, starts-no-set, starts-answered}
 use Rattle.calls.proofs.Running.{columns-kept, columns-as}
 use Rattle.calls.proofs.starts.Statement.{statement}
@@ -14,7 +15,7 @@ refuse-requires : tie.Need-refuse-requires
 refuse-requires c κs = search needs
 
 returns : tie.Need-returns
-returns c = let read = c .before .before .before .read in columns-kept _ _ _ (starts-refused _ _ _ (read .ensures .refused (λ e. omega arith)) _ _ _) _ _ _ (c .refuse .ensures)
+returns c = let read = c .before .before .before .read in columns-kept _ _ _ (starts-refused _ _ _ (read-as (read .result) _ (read .ensures .0) (read .ensures .1) .refused (λ e. omega arith)) _ _ _) _ _ _ (c .refuse .ensures)
 
 refuse-requires-2 : tie.Need-refuse-requires-2
 refuse-requires-2 c κs = search needs
@@ -22,7 +23,7 @@ refuse-requires-2 c κs = search needs
 returns-2 : tie.Need-returns-2
 returns-2 c =
     let read = c .before .before .before .before .before .read in
-    columns-kept _ _ _ (starts-beyond _ _ (read .ensures .accepted (omega arith)) _ _ _ (omega arith)) _ _ _ (c .refuse2 .ensures)
+    columns-kept _ _ _ (starts-beyond _ _ (read-as (read .result) _ (read .ensures .0) (read .ensures .1) .accepted (omega arith)) _ _ _ (omega arith)) _ _ _ (c .refuse2 .ensures)
 
 cast-if3 : tie.Need-cast-if3
 cast-if3 c = search needs
@@ -33,13 +34,13 @@ refuse-requires-3 c κs = search needs
 returns-3 : tie.Need-returns-3
 returns-3 c =
     let read = c .before .before .before .before .before .before .read in
-    columns-kept _ _ _ (starts-no-set _ _ (read .ensures .accepted (omega arith)) _ _ _ (omega arith) (omega arith)) _ _ _ (c .refuse3 .ensures)
+    columns-kept _ _ _ (starts-no-set _ _ (read-as (read .result) _ (read .ensures .0) (read .ensures .1) .accepted (omega arith)) _ _ _ (omega arith) (omega arith)) _ _ _ (c .refuse3 .ensures)
 
 cast-runs-at : tie.Need-cast-runs-at
 cast-runs-at c = omega arith
 
 runs-at-requires : tie.Need-runs-at-requires
-runs-at-requires c κs = let read = c .before .before .before .before .before .before .before .read in (read .ensures .accepted (omega arith) .placeable, omega arith)
+runs-at-requires c κs = let read = c .before .before .before .before .before .before .before .read in (read-as (read .result) _ (read .ensures .0) (read .ensures .1) .accepted (omega arith) .placeable, omega arith)
 
 same-length : tie.Need-same-length
 same-length c = search needs
@@ -51,7 +52,7 @@ returns-4 : tie.Need-returns-4
 returns-4 c =
     let filled = c .before .before .before .before in
     let read = filled .before .before .before .before .before .before .before .before .read in
-    columns-as _ _ (starts-answered _ _ (read .ensures .accepted (omega arith)) _ _ _ (omega arith) (omega arith)) _ _ _ _ _ (filled .runs-at .ensures)
+    columns-as _ _ (starts-answered _ _ (read-as (read .result) _ (read .ensures .0) (read .ensures .1) .accepted (omega arith)) _ _ _ (omega arith) (omega arith)) _ _ _ _ _ (filled .runs-at .ensures)
 
 pub starts-spec : {M : Type 1} → statement M
 starts-spec =

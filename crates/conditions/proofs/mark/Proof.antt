@@ -12,8 +12,8 @@ use Rattle.conditions.proofs.mark.Statement.{statement}
 use Rattle.conditions.proofs.mark.Tie as tie
 
 -- the condition's bit can be added to the table
-room : (c : tie.After-bit) → Markable (c .bit .result) (c .before .before .args .count) (c .before .before .args .table .now)
-room c = let s = c .before .before in markable _ _ _ _ _ _ _ _ (s .pre .0 .2) _ (s .pre .0 .1 .1) _ _ (c .bit .ensures .1) (s .pre .1 .0) (s .pre .1 .1)
+markable-bit : (c : tie.After-bit) → Markable (c .bit .result) (c .before .before .args .count) (c .before .before .args .table .now)
+markable-bit c = let s = c .before .before in markable _ _ _ _ _ _ _ _ (s .pre .0 .2) _ (s .pre .0 .1 .1) _ _ (c .bit .ensures .1) (s .pre .1 .0) (s .pre .1 .1)
 
 bit-requires : tie.Need-bit-requires
 bit-requires c κs = search needs
@@ -21,31 +21,31 @@ bit-requires c κs = search needs
 mark-windows-requires : tie.Need-mark-windows-requires
 mark-windows-requires c κs =
     let s = c .before .before .before .before .before .before .before .before .before in
-    (s .pre .0 .1 .1 .sized .windows, length-unmapped _ (s .args .candidate .«window_from») 4 (s .good .1 .1 .0 .1 .1 .1 .1 .1 .1 .1 .0 .1 .0 .1), length-unmapped _ (s .args .candidate .«window_to») 4 (s .good .1 .1 .0 .1 .1 .1 .1 .1 .1 .1 .1 .0 .1 .0 .1), room (c .before .before .before .before .before .before .before))
+    (s .pre .0 .1 .1 .sized .windows, length-unmapped _ (s .args .candidate .«window_from») 4 (s .good .1 .1 .0 .1 .1 .1 .1 .1 .1 .1 .0 .1 .0 .1), length-unmapped _ (s .args .candidate .«window_to») 4 (s .good .1 .1 .0 .1 .1 .1 .1 .1 .1 .1 .1 .0 .1 .0 .1), markable-bit (c .before .before .before .before .before .before .before))
 
 mark-after-requires : tie.Need-mark-after-requires
-mark-after-requires c κs = let B = c .before .before .before .before .before .before .before .before .pre .0 .1 .1 in (omega (arith, B .few), B .sized .after, room (c .before .before .before .before .before .before))
+mark-after-requires c κs = let B = c .before .before .before .before .before .before .before .before .pre .0 .1 .1 in (omega (arith, B .few), B .sized .after, markable-bit (c .before .before .before .before .before .before))
 
 mark-units-requires : tie.Need-mark-units-requires
-mark-units-requires c κs = let s = c .before .before .before .before .before .before .before in ((s .pre .0 .1 .1 .few, ticks-ok _ _ _ _ _ _ _ _ (s .pre .0 .2) _ (s .pre .0 .1 .1)), (lasts _ _ _ _ _ _ _ _ (s .pre .0 .2) _ (s .pre .0 .1 .1), count-few _ _ _ _ _ _ _ _ (s .pre .0 .2) _ (s .pre .0 .1 .1), room (c .before .before .before .before .before)))
+mark-units-requires c κs = let s = c .before .before .before .before .before .before .before in ((s .pre .0 .1 .1 .few, ticks-ok _ _ _ _ _ _ _ _ (s .pre .0 .2) _ (s .pre .0 .1 .1)), (lasts _ _ _ _ _ _ _ _ (s .pre .0 .2) _ (s .pre .0 .1 .1), count-few _ _ _ _ _ _ _ _ (s .pre .0 .2) _ (s .pre .0 .1 .1), markable-bit (c .before .before .before .before .before)))
 
 mark-state-requires : tie.Need-mark-state-requires
-mark-state-requires c κs = let s = c .before .before .before .before .before .before .before in ((s .pre .0 .1 .1 .few, ticks-ok _ _ _ _ _ _ _ _ (s .pre .0 .2) _ (s .pre .0 .1 .1), settings-ok _ _ _ _ _ _ _ _ (s .pre .0 .2) _ (s .pre .0 .1 .1)), (count-few _ _ _ _ _ _ _ _ (s .pre .0 .2) _ (s .pre .0 .1 .1), room (c .before .before .before .before .before)))
+mark-state-requires c κs = let s = c .before .before .before .before .before .before .before in ((s .pre .0 .1 .1 .few, ticks-ok _ _ _ _ _ _ _ _ (s .pre .0 .2) _ (s .pre .0 .1 .1), settings-ok _ _ _ _ _ _ _ _ (s .pre .0 .2) _ (s .pre .0 .1 .1)), (count-few _ _ _ _ _ _ _ _ (s .pre .0 .2) _ (s .pre .0 .1 .1), markable-bit (c .before .before .before .before .before)))
 
 mark-engines-requires : tie.Need-mark-engines-requires
-mark-engines-requires c κs = let s = c .before .before .before .before .before .before .before in ((s .pre .0 .1 .1 .few, ticks-ok _ _ _ _ _ _ _ _ (s .pre .0 .2) _ (s .pre .0 .1 .1), amounts-ok _ _ _ _ _ _ _ _ (s .pre .0 .2) _ (s .pre .0 .1 .1)), (lasts _ _ _ _ _ _ _ _ (s .pre .0 .2) _ (s .pre .0 .1 .1), count-few _ _ _ _ _ _ _ _ (s .pre .0 .2) _ (s .pre .0 .1 .1), room (c .before .before .before .before .before)))
+mark-engines-requires c κs = let s = c .before .before .before .before .before .before .before in ((s .pre .0 .1 .1 .few, ticks-ok _ _ _ _ _ _ _ _ (s .pre .0 .2) _ (s .pre .0 .1 .1), amounts-ok _ _ _ _ _ _ _ _ (s .pre .0 .2) _ (s .pre .0 .1 .1)), (lasts _ _ _ _ _ _ _ _ (s .pre .0 .2) _ (s .pre .0 .1 .1), count-few _ _ _ _ _ _ _ _ (s .pre .0 .2) _ (s .pre .0 .1 .1), markable-bit (c .before .before .before .before .before)))
 
 mark-peaks-requires : tie.Need-mark-peaks-requires
-mark-peaks-requires c κs = let s = c .before .before .before .before .before .before .before in ((s .pre .0 .1 .1 .few, ticks-ok _ _ _ _ _ _ _ _ (s .pre .0 .2) _ (s .pre .0 .1 .1), amounts-ok _ _ _ _ _ _ _ _ (s .pre .0 .2) _ (s .pre .0 .1 .1)), (lasts _ _ _ _ _ _ _ _ (s .pre .0 .2) _ (s .pre .0 .1 .1), count-few _ _ _ _ _ _ _ _ (s .pre .0 .2) _ (s .pre .0 .1 .1), room (c .before .before .before .before .before)))
+mark-peaks-requires c κs = let s = c .before .before .before .before .before .before .before in ((s .pre .0 .1 .1 .few, ticks-ok _ _ _ _ _ _ _ _ (s .pre .0 .2) _ (s .pre .0 .1 .1), amounts-ok _ _ _ _ _ _ _ _ (s .pre .0 .2) _ (s .pre .0 .1 .1)), (lasts _ _ _ _ _ _ _ _ (s .pre .0 .2) _ (s .pre .0 .1 .1), count-few _ _ _ _ _ _ _ _ (s .pre .0 .2) _ (s .pre .0 .1 .1), markable-bit (c .before .before .before .before .before)))
 
 mark-charge-requires : tie.Need-mark-charge-requires
-mark-charge-requires c κs = let s = c .before .before .before .before .before .before .before in ((s .pre .0 .1 .1 .few, ticks-ok _ _ _ _ _ _ _ _ (s .pre .0 .2) _ (s .pre .0 .1 .1), amounts-ok _ _ _ _ _ _ _ _ (s .pre .0 .2) _ (s .pre .0 .1 .1)), ((s .pre .0 .1 .1 .reached .header, kept-ok _ _ _ _ _ _ _ _ (s .pre .0 .2) _ (s .pre .0 .1 .1)), (count-end _ _ _ _ _ _ _ _ (s .pre .0 .2) _ (s .pre .0 .1 .1), room (c .before .before .before .before .before))))
+mark-charge-requires c κs = let s = c .before .before .before .before .before .before .before in ((s .pre .0 .1 .1 .few, ticks-ok _ _ _ _ _ _ _ _ (s .pre .0 .2) _ (s .pre .0 .1 .1), amounts-ok _ _ _ _ _ _ _ _ (s .pre .0 .2) _ (s .pre .0 .1 .1)), ((s .pre .0 .1 .1 .reached .header, kept-ok _ _ _ _ _ _ _ _ (s .pre .0 .2) _ (s .pre .0 .1 .1)), (count-end _ _ _ _ _ _ _ _ (s .pre .0 .2) _ (s .pre .0 .1 .1), markable-bit (c .before .before .before .before .before))))
 
 mark-volume-requires : tie.Need-mark-volume-requires
-mark-volume-requires c κs = (c .before .before .before .before .before .before .before .pre .0 .1 .1 .few, room (c .before .before .before .before .before))
+mark-volume-requires c κs = (c .before .before .before .before .before .before .before .pre .0 .1 .1 .few, markable-bit (c .before .before .before .before .before))
 
 mark-warmup-requires : tie.Need-mark-warmup-requires
-mark-warmup-requires c κs = room (c .before .before .before .before .before)
+mark-warmup-requires c κs = markable-bit (c .before .before .before .before .before)
 
 same-length : tie.Need-same-length
 same-length c = search needs

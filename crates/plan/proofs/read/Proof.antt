@@ -11,7 +11,7 @@ use Rattle.rules.specs.Lines.{lines}
 use Rattle.rules.specs.Reading.{afterLines}
 use Rattle.activity.specs.View.{headerView}
 use Rattle.plan.specs.Reading.{inOrder}
-use Rattle.plan.proofs.Unless.{unless-value, unless-fault}
+use Rattle.line.proofs.Unless.{unless-value, unless-fault}
 use Rattle.plan.proofs.Cutting.{lines-next, lineWith, line-ended, line-fields}
 use Rattle.plan.proofs.Lining.{form-is}
 use Rattle.plan.proofs.Judging.{view-refused, none-said, read-1, read-short, read-2, read-fault, read-lines}

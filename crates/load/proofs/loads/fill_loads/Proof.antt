@@ -51,7 +51,7 @@ ends : (c : tie.After-raise-ticks-arg Inv-loop μ-loop) →
     (startAt ticks (at .loop .i) ≤ endAt ticks (at .loop .i)) × (endAt ticks (at .loop .i) ≤ 4096)
 ends c = let at = c .before .before .before .before in
     let b = start at .pre .0 .0 in
-    (b .starts (at .loop .i) (omega arith), b .ends (at .loop .i) (omega arith))
+    (b .start-end (at .loop .i) (omega arith), b .ends (at .loop .i) (omega arith))
 
 weight : (c : tie.After-raise-ticks-arg Inv-loop μ-loop) →
     let at = c .before .before .before .before in numberAt (start at .args .weights .now) (at .loop .i) ≤ 1000000

@@ -12,7 +12,6 @@ use Rattle.placed.specs.Written.{Written}
 use Rattle.placed.proofs.Writing.{byte, written-none, written-more}
 use Rattle.placed.proofs.units.put_units.Statement.{statement}
 use Rattle.placed.proofs.units.put_units.Tie as tie
-use Rattle.placed.proofs.units.has_unit.Reads as has-unit-reads
 
 abbrev Inv-loop : tie.InvT-loop
 Inv-loop units count base table₀ u₀ table u = (u ≤ 32) × Written (λ x. cond (anyOf (eqb x) (take count units)) 1 0) base u table₀ table
@@ -23,11 +22,11 @@ abbrev μ-loop : tie.MeasureT-loop
 loop-holds : tie.Need-loop-holds Inv-loop μ-loop
 loop-holds c = (omega arith, written-none _ _ _)
 
-cast-has-unit : tie.Need-cast-has-unit Inv-loop μ-loop
-cast-has-unit c = omega arith
+cast-among : tie.Need-cast-among Inv-loop μ-loop
+cast-among c = omega arith
 
-has-unit-requires : tie.Need-has-unit-requires Inv-loop μ-loop
-has-unit-requires c κs = (c .before .before .before .pre .0, c .before .before .before .pre .1)
+among-requires : tie.Need-among-requires Inv-loop μ-loop
+among-requires c κs = let p = c .before .before .before .before .pre in omega (arith, p .0, p .1)
 
 cast-table : tie.Need-cast-table Inv-loop μ-loop
 cast-table c = search needs
@@ -36,7 +35,7 @@ add-table : tie.Need-add-table Inv-loop μ-loop
 add-table c = omega arith
 
 slice-write-table : tie.Need-slice-write-table Inv-loop μ-loop
-slice-write-table c = let a = c .before .before in omega (arith, a .before .before .pre .3, a .loop .inv .1 .size)
+slice-write-table c = let a = c .before .before .before in omega (arith, a .before .before .pre .3, a .loop .inv .1 .size)
 
 add-u : tie.Need-add-u Inv-loop μ-loop
 add-u c = omega arith
@@ -45,7 +44,7 @@ loop-less : tie.Need-loop-less Inv-loop μ-loop
 loop-less c = omega arith
 
 loop-again : tie.Need-loop-again Inv-loop μ-loop
-loop-again c = let a = c .before .before in (omega arith, written-more _ _ (a .loop .u) _ _ _ (omega (arith, a .before .before .pre .3)) (byte _ _ (c .has-unit .ensures)) (a .loop .inv .1))
+loop-again c = let a = c .before .before .before in (omega arith, written-more _ _ (a .loop .u) _ _ _ (omega (arith, a .before .before .pre .3)) (byte _ _ (c .among .ensures)) (a .loop .inv .1))
 
 same-length : tie.Need-same-length Inv-loop μ-loop
 same-length c = c .before .loop .inv .1 .size
@@ -60,8 +59,8 @@ put-units-spec =
     Inv-loop
     μ-loop
     loop-holds
-    cast-has-unit
-    has-unit-requires
+    cast-among
+    among-requires
     cast-table
     add-table
     slice-write-table

@@ -20,21 +20,21 @@ abbrev μ-loop : tie.MeasureT-loop
 loop-holds : tie.Need-loop-holds Inv-loop μ-loop
 loop-holds c = (omega arith, refl)
 
-mul-has-id : tie.Need-mul-has-id Inv-loop μ-loop
-mul-has-id c = omega arith
+mul-among : tie.Need-mul-among Inv-loop μ-loop
+mul-among c = omega arith
 
-shared-slice-read-has-id : tie.Need-shared-slice-read-has-id Inv-loop μ-loop
-shared-slice-read-has-id c = omega arith
+shared-slice-read-among : tie.Need-shared-slice-read-among Inv-loop μ-loop
+shared-slice-read-among c = omega arith
 
-has-id-requires : tie.Need-has-id-requires Inv-loop μ-loop
-has-id-requires c κs = omega arith
+among-requires : tie.Need-among-requires Inv-loop μ-loop
+among-requires c κs = omega arith
 
 returns : tie.Need-returns Inv-loop μ-loop
 unfolding amongIds
 returns c =
     let l = c .before .before .before .before in
     let a = l .before .before .before .args in
-    sym (l .loop .inv .1 ∙ every-miss (amongIds (take (a .n) (a .ids .now))) (a .after .now) (a .count) (omega arith) (l .loop .i) (omega arith) (sym (c .before .has-id .ensures) ∙ not-true _ (c .if1 .taken)))
+    sym (l .loop .inv .1 ∙ every-miss (amongIds (take (a .n) (a .ids .now))) (a .after .now) (a .count) (omega arith) (l .loop .i) (omega arith) (sym (c .before .among .ensures) ∙ not-true _ (c .if1 .taken)))
 
 add-i : tie.Need-add-i Inv-loop μ-loop
 add-i c = omega arith
@@ -47,7 +47,7 @@ unfolding amongIds
 loop-again c =
     let l = c .before .before .before .before in
     let a = l .before .before .before .args in
-    (omega arith, l .loop .inv .1 ∙ every-hit (amongIds (take (a .n) (a .ids .now))) (a .after .now) (a .count) (omega arith) (l .loop .i) (omega arith) (sym (c .before .has-id .ensures) ∙ not-false _ (c .if1 .left)))
+    (omega arith, l .loop .inv .1 ∙ every-hit (amongIds (take (a .n) (a .ids .now))) (a .after .now) (a .count) (omega arith) (l .loop .i) (omega arith) (sym (c .before .among .ensures) ∙ not-false _ (c .if1 .left)))
 
 returns-2 : tie.Need-returns-2 Inv-loop μ-loop
 returns-2 c =
@@ -62,9 +62,9 @@ all-among-spec =
     Inv-loop
     μ-loop
     loop-holds
-    mul-has-id
-    shared-slice-read-has-id
-    has-id-requires
+    mul-among
+    shared-slice-read-among
+    among-requires
     returns
     add-i
     loop-less

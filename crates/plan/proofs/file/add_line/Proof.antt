@@ -10,9 +10,9 @@ use lib.ListN.{take, drop}
 use Rattle.rules.specs.Bytes.{bytes}
 use Rattle.activity.specs.View.{headerView, activityView}
 use Rattle.plan.specs.LinesView.{activitiesView}
-use Rattle.plan.specs.declared.order.Line.{Line}
+use Rattle.order.specs.declared.lines.Line.{Line}
 use Rattle.plan.proofs.LineAt.{line-in, line-fields}
-use Rattle.plan.proofs.Unless.{unless-value, unless-fault}
+use Rattle.line.proofs.Unless.{unless-value, unless-fault}
 use Rattle.plan.proofs.Lining.{form-is, line-2, line-5, line-fault, line-6, line-on, counted, from-refused, from-pushed, pushed-view, has-collected}
 use Rattle.plan.proofs.file.add_line.Statement.{statement}
 use Rattle.plan.proofs.file.add_line.Tie as tie
@@ -82,11 +82,11 @@ returns-3 c =
           (rw q (sym (r .read-activity .ensures .0) ∙ unless-fault _ _ (c .before .if3 .taken)))),
     )
 
-slice-aggregate-has-id : tie.Need-slice-aggregate-has-id
-slice-aggregate-has-id c = search needs
+slice-aggregate-among : tie.Need-slice-aggregate-among
+slice-aggregate-among c = search needs
 
-has-id-requires : tie.Need-has-id-requires
-has-id-requires c κs =
+among-requires : tie.Need-among-requires
+among-requires c κs =
     let g = c .before .before .before .before .before .before .before .before .before .before .before .pre .0 .1 in
     omega (arith, g .small, g .ids-long)
 
@@ -109,7 +109,7 @@ returns-4 c =
           from-refused (headerView (a .h)) (a .s .now) (a .t) (c .refuse4 .result) line rest (g .0 .0) 6 (λ z. omega arith) (c .refuse4 .ensures .0) (c .refuse4 .ensures .1)
           (line-6 (headerView (a .h)) _ _ line rest (form-is (bytes "act") 15 line (take (a .end - a .at) (drop (a .at) (a .s .now))) e q ∙ sym (f .formed .ensures) ∙ not-false _ (b .if1 .left)) (rw (counted (headerView (a .h)) (a .s .now) (a .t) (g .0 .1)) (d .if2 .left)) (activityView (r .read-activity .result .activity))
           (rw q (sym (r .read-activity .ensures .0) ∙ unless-value _ _ (x .if3 .left)))
-          (has-collected (headerView (a .h)) (a .s .now) (a .t) (g .0 .1) _ ∙ sym (p .has-id .ensures) ∙ c .before .if4 .taken)),
+          (has-collected (headerView (a .h)) (a .s .now) (a .t) (g .0 .1) _ ∙ sym (p .among .ensures) ∙ c .before .if4 .taken)),
     )
 
 cast-t24 : tie.Need-cast-t24
@@ -155,7 +155,7 @@ returns-5 c =
           from-pushed (headerView (a .h)) (a .s .now) (a .t) (c .push .result) line rest (g .0 .0) (activityView (r .read-activity .result .activity)) (u .0) (u .1) (pushed-view (headerView (a .h)) (a .s .now) (a .t) (c .push .result) m (u .2) ∙ ap (λ w. activitiesView (headerView (a .h)) (a .s .now) (a .t) ++ (w ∷ [])) (k .1))
           (line-on (headerView (a .h)) _ _ line rest (form-is (bytes "act") 15 line (take (a .end - a .at) (drop (a .at) (a .s .now))) e q ∙ sym (f .formed .ensures) ∙ not-false _ (b .if1 .left)) (rw (counted (headerView (a .h)) (a .s .now) (a .t) (g .0 .1)) (d .if2 .left)) (activityView (r .read-activity .result .activity))
           (rw q (sym (r .read-activity .ensures .0) ∙ unless-value _ _ (x .if3 .left)))
-          (has-collected (headerView (a .h)) (a .s .now) (a .t) (g .0 .1) _ ∙ sym (p .has-id .ensures) ∙ e4 .if4 .left)),
+          (has-collected (headerView (a .h)) (a .s .now) (a .t) (g .0 .1) _ ∙ sym (p .among .ensures) ∙ e4 .if4 .left)),
     )
 
 pub add-line-spec : {M : Type 1} → statement M
@@ -174,8 +174,8 @@ add-line-spec =
     read-activity-requires
     refuse-requires-3
     returns-3
-    slice-aggregate-has-id
-    has-id-requires
+    slice-aggregate-among
+    among-requires
     refuse-requires-4
     returns-4
     cast-t24

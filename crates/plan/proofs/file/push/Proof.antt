@@ -5,11 +5,14 @@ use mathlib.Core.List.{_∷_, []}
 use native.Mathlib.Omega.{arith}
 use borrow.Author.Needs.{needs}
 use lib.ListN.{length, take, length-set}
-use Rattle.plan.proofs.Fronts.{front-set, map-append}
-use Rattle.plan.specs.Collected.{idOf}
+use Rattle.order.proofs.Fronts.{front-set, map-append}
+use Rattle.order.specs.Lines.{idOf}
 use Rattle.plan.proofs.Ordering.{append-in}
 use Rattle.plan.proofs.file.push.Statement.{statement}
 use Rattle.plan.proofs.file.push.Tie as tie
+
+cast-r : tie.Need-cast-r
+cast-r c = search needs
 
 mul-r : tie.Need-mul-r
 mul-r c = search needs
@@ -28,9 +31,9 @@ add-r c = search needs
 
 returns : tie.Need-returns
 returns c =
-    let t = c .args .t in
-    let l = c .args .line in
-    let a = c .pre .1 in
+    let t = c .before .args .t in
+    let l = c .before .args .line in
+    let a = c .before .pre .1 in
     let b : length (t .ids) ≡ 64 = search needs in
     let e = front-set (t .list) (t .count) l (omega arith) in (
       refl,
@@ -46,4 +49,4 @@ returns c =
     )
 
 pub push-spec : {M : Type 1} → statement M
-push-spec = tie.close (tie.spec mul-r element-write-r mul-line element-set-from-line add-r returns)
+push-spec = tie.close (tie.spec cast-r mul-r element-write-r mul-line element-set-from-line add-r returns)

@@ -7,7 +7,7 @@ use lib.ListN.{take}
 use Rattle.activity.specs.View.{headerView}
 use Rattle.plan.specs.View.{planView}
 use Rattle.plan.specs.Reading.{readingView}
-use Rattle.plan.specs.Collected.{lineAmong}
+use Rattle.order.specs.Lines.{lineAmong}
 use Rattle.plan.proofs.Places.{id-at}
 use Rattle.plan.proofs.Judging.{view-refused, none-said, judge-stopped, place-ids, all-say, judge-7, judge-9, judge-accepted}
 use Rattle.plan.proofs.judge.judge.Statement.{statement}

@@ -6,7 +6,7 @@ use Prim.Native.Nat.{ℕ, _-_, _<_}
 use native.Mathlib.Omega.{arith}
 use lib.ListN.{length}
 use Rattle.schedule.specs.Search.{meetsIn}
-use Rattle.schedule.proofs.Columns.{Column, column-none, column-more, column-room, column-inside, column-all, same-length as length-kept}
+use Rattle.schedule.proofs.Columns.{Column, column-none, column-more, column-front, column-inside, column-all, same-length as length-kept}
 use Rattle.schedule.proofs.runs.write_column.Statement.{statement}
 use Rattle.schedule.proofs.runs.write_column.Tie as tie
 
@@ -43,7 +43,7 @@ unfolding meetsIn
 sub-to c =
     let start = c .before .before .before .before .before .before .before in
     let at = c .before .before .before .before .loop in
-    column-room (meetsIn (start .args .table .now) (start .args .set)) (start .args .first) _ _ (at .s - 1) _ _ _ _ _ _ _ (at .inv .1) (omega arith) (c .before .contains .ensures) (c .ends-run .ensures .0) (start .pre .1)
+    column-front (meetsIn (start .args .table .now) (start .args .set)) (start .args .first) _ _ (at .s - 1) _ _ _ _ _ _ _ (at .inv .1) (omega arith) (c .before .contains .ensures) (c .ends-run .ensures .0) (start .pre .1)
 
 is-written-requires : tie.Need-is-written-requires Inv-loop μ-loop
 is-written-requires c κs = tt
@@ -67,9 +67,9 @@ loop-again c =
     let ends = c .before .before .before .before .before .ends-run in
     let passes = c .before .before .before .before .before .before .contains .ensures in
     let pass : ℕ → Bool = meetsIn (start .args .table .now) (start .args .set) in
-    let room = column-room pass (start .args .first) _ _ (at .s - 1) _ _ _ _ _ _ _ (at .inv .1) (omega arith) passes (ends .ensures .0) (start .pre .1) in (
+    let front = column-front pass (start .args .first) _ _ (at .s - 1) _ _ _ _ _ _ _ (at .inv .1) (omega arith) passes (ends .ensures .0) (start .pre .1) in (
       ap length (c .before .before .write-if .ensures) ∙ length-kept (c .before .before .before .before .is-written .result) (at .out) (at .to - ends .result) (at .s - 1) ∙ at .inv .0,
-      column-more pass (start .args .first) _ _ (at .s - 1) _ _ _ _ _ _ _ (at .inv .1) (omega arith) passes (ends .ensures .0) (ends .ensures .1) room _ (c .before .before .before .before .is-written .ensures) _ (c .before .before .write-if .ensures),
+      column-more pass (start .args .first) _ _ (at .s - 1) _ _ _ _ _ _ _ (at .inv .1) (omega arith) passes (ends .ensures .0) (ends .ensures .1) front _ (c .before .before .before .before .is-written .ensures) _ (c .before .before .write-if .ensures),
     )
 
 same-length : tie.Need-same-length Inv-loop μ-loop

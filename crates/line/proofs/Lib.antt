@@ -1,0 +1,3 @@
+pub mod Unless
+pub mod Lists
+pub mod FieldsFrom
