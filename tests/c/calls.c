@@ -328,7 +328,7 @@ static void most_runs(const char *text, size_t length)
     CHECK(is_no(starts(63, PLANNER_CONDITIONS_ALL, MOST_RUNS - 1), PLANNER_REFUSAL_SLICE_TOO_SHORT, 0));
     CHECK(starts(63, planner_all_but(PLANNER_CONDITION_W), PLANNER_RUNS_MOST) == MOST_RUNS - 3);
     CHECK(starts(63, PLANNER_CONDITIONS_ALL, MOST_RUNS) == MOST_RUNS);
-    CHECK(runs[0].first == 0 && runs[MOST_RUNS - 1].last == 4095);
+    CHECK(runs[0].first == 0 && runs[MOST_RUNS - 1].last == 1899);
     for (int i = 0; i < MOST_RUNS; i++)
         CHECK(runs[i].first <= runs[i].last && (i == 0 || runs[i - 1].last + 1 < runs[i].first));
 }

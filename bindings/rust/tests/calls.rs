@@ -190,7 +190,7 @@ fn the_most_runs() {
     let mut records = [FILLED; RUNS_MOST];
     let all = starts_into(plan, 63, Conditions::ALL, &mut records[..98]).unwrap().to_vec();
     assert_eq!(all.len(), 98);
-    assert_eq!((all[0].first, all[97].last), (0, 4095));
+    assert_eq!((all[0].first, all[97].last), (0, 1899));
     assert!(all.iter().all(|run| run.first <= run.last));
     assert!(all.windows(2).all(|pair| pair[0].last + 1 < pair[1].first));
     assert!(records[98..].iter().all(|&record| record == FILLED));
