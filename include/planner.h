@@ -167,8 +167,8 @@ static inline size_t planner_written(uint64_t answer)
     return planner_refusal(answer) == 0 ? PLANNER_CAST(uint32_t, answer) : 0;
 }
 
-/* From an id to its place: the line of the report that begins with it. SIZE_MAX where there is none, a place that every
- * call refuses with PLANNER_REFUSAL_NO_SUCH_PLACE.
+/* From an id to its place: the line of the report that begins with it. SIZE_MAX where there is none, a place that
+ * planner_outcome and planner_starts refuse with PLANNER_REFUSAL_NO_SUCH_PLACE.
  *
  *   report, report_length  what planner_report wrote, and its planner_written
  *   id                     the id, as in the plan */
