@@ -6,8 +6,8 @@
 use bovkact_planner::{outcome, place_of, report, starts_into, version};
 use bovkact_planner::{Condition, Conditions, Interval, Outcome, Refusal, REPORT_MOST, RUNS_MOST, VERSION};
 
-// The heart of the example: the start of the activity with this id. Where it is refused, the first start that it would
-// have without its windows. None where the plan has no such activity, or that start neither.
+// The start of the activity with this id. Where it is refused, the first start that it would have without its windows.
+// None where there is none, or no such activity. It takes 18 KB of stack beside STACK_MOST.
 fn start_of(plan: &[u8], id: u32) -> Result<Option<u32>, Refusal> {
     let mut text = [0; REPORT_MOST];
     let Some(place) = place_of(report(plan, &mut text)?, id) else {
