@@ -1,11 +1,14 @@
-/* Makes one call of the library on a stack of its own, and prints how many bytes of it the call took.
+/* Makes one call of the library and prints what it took.
  *
- *   station PLAN outcome|report|starts
+ *   station PLAN outcome|report|starts stack|time|once
  *
- * PLAN is a file. The call is made for the last of 64 places; starts for all conditions. */
+ * PLAN is a file. The call is made for the last of 64 places; starts for all conditions. `stack` prints the bytes that
+ * the call took of a stack of its own; `time` the milliseconds of processor time, the least of at least 5 calls over at
+ * least 2 seconds; `once` makes the call once and prints nothing. */
 #include <stdio.h>
 #include <stdlib.h>
 #include <string.h>
+#include <time.h>
 #include <ucontext.h>
 
 #include "planner.h"
@@ -57,29 +60,65 @@ static size_t taken(void (*call)(void))
     return STACK - left;
 }
 
+static double milliseconds(void)
+{
+    struct timespec now;
+    clock_gettime(CLOCK_THREAD_CPUTIME_ID, &now);
+    return (double)now.tv_sec * 1e3 + (double)now.tv_nsec / 1e6;
+}
+
+/* The milliseconds that a function took, the least of many times. */
+static double least(void (*call)(void))
+{
+    double began = milliseconds(), least = 1e9;
+    for (int i = 0; i < 5 || milliseconds() - began < 2000; i++) {
+        double before = milliseconds();
+        call();
+        double took = milliseconds() - before;
+        if (took < least)
+            least = took;
+    }
+    return least;
+}
+
+/* Prints what a call took; whether there is such a thing to print. */
+static int measure(void (*call)(void), const char *what)
+{
+    if (strcmp(what, "stack") == 0)
+        printf("%zu\n", taken(call) - taken(nothing));
+    else if (strcmp(what, "time") == 0)
+        printf("%.1f\n", least(call));
+    else if (strcmp(what, "once") == 0)
+        call();
+    else
+        return 0;
+    return 1;
+}
+
 int main(int count, char **words)
 {
     static const struct {
         const char *name;
         void (*call)(void);
     } calls[] = {{"outcome", outcome}, {"report", report}, {"starts", starts}};
-    FILE *file = count == 3 ? fopen(words[1], "rb") : NULL;
+    FILE *file = count == 4 ? fopen(words[1], "rb") : NULL;
+    int done = 0;
     if (file == NULL) {
-        fprintf(stderr, "station PLAN outcome|report|starts\n");
+        fprintf(stderr, "station PLAN outcome|report|starts stack|time|once\n");
         return 1;
     }
     plan_length = fread(plan, 1, sizeof plan, file);
     fclose(file);
     for (size_t i = 0; i < sizeof calls / sizeof *calls; i++)
-        if (strcmp(words[2], calls[i].name) == 0) {
-            size_t bytes = taken(calls[i].call) - taken(nothing);
-            if (planner_refusal(answer) != PLANNER_REFUSAL_NONE) {
-                fprintf(stderr, "%s\n", planner_refusal_text(planner_refusal(answer)));
-                return 1;
-            }
-            printf("%zu\n", bytes);
-            return 0;
-        }
-    fprintf(stderr, "no call %s\n", words[2]);
-    return 1;
+        if (strcmp(words[2], calls[i].name) == 0)
+            done = measure(calls[i].call, words[3]);
+    if (!done) {
+        fprintf(stderr, "no call %s, or nothing to measure %s\n", words[2], words[3]);
+        return 1;
+    }
+    if (planner_refusal(answer) != PLANNER_REFUSAL_NONE) {
+        fprintf(stderr, "%s\n", planner_refusal_text(planner_refusal(answer)));
+        return 1;
+    }
+    return 0;
 }

@@ -1,8 +1,13 @@
-/* The calls of the seabed station planner (document 01), for C99 and C++. Link with libstation.a.
+/* The calls of the seabed station planner (document 01), for C99 and C++11. Link with libstation.a.
  *
- * A plan is the bytes of a plan file as they are, with no NUL behind them. An activity is named by its place, its
- * position in the scheduling order, from 0. A start is a tick, a minute counted from the plan's beginning. Each call
- * reads the plan, does its whole work and gives its answer as one number, which the functions below take apart:
+ * A plan is the bytes of a plan file as they are, with no NUL behind them. A start is a tick, a minute counted from the
+ * plan's beginning. An activity is named by its place: its position in the scheduling order, from 0. That order is by
+ * priority, the lowest number first, and of equal priorities by line; so a place is neither an id nor a line number.
+ * Line k of the report, counted from 0, is the line of place k, and begins with the activity's id: planner_place_of
+ * looks an id up there.
+ *
+ * Each call reads the plan, does its whole work and gives its answer as one number, which the functions below take
+ * apart:
  *
  *     bits 0 to 31   what was asked for: a start, a set of conditions, a length or a count; of a refusal, its line
  *     bits 32 to 39  the number of the refusal; 0 where the call is answered
@@ -33,7 +38,12 @@
 
 #ifdef __cplusplus
 extern "C" {
+#define PLANNER_CAST(type, value) static_cast<type>(value)
+#else
+#define PLANNER_CAST(type, value) ((type)(value))
 #endif
+
+#define PLANNER_VERSION 1 /* the version of this header; planner_version() gives that of the library */
 
 #define PLANNER_PLAN_MOST 60000    /* the most bytes of a plan; a longer one is refused */
 #define PLANNER_ACTIVITIES_MOST 64 /* the most activities of a plan */
@@ -80,6 +90,10 @@ enum planner_condition {
     PLANNER_CONDITIONS_ALL = 511
 };
 
+/* The version of the library that is linked. A program that is linked with another library than it was compiled for
+ * finds out by one comparison, planner_version() == PLANNER_VERSION, before its first call. */
+uint32_t planner_version(void);
+
 /* How the activity at a place is answered: placed at a start, or refused with conditions that have no start in common;
  * without any one of them the others have.
  *
@@ -90,7 +104,8 @@ enum planner_condition {
  * planner_start or planner_conditions. Nothing is written. */
 uint64_t planner_outcome(const uint8_t *plan, size_t plan_length, size_t place);
 
-/* The report of the plan: a line for each place, then the end line, in ASCII, each ended by LF; no NUL behind them.
+/* The report of the plan: a line for each place, place 0 first, then the end line, in ASCII, each ended by LF; no NUL
+ * behind them.
  *
  *   plan, plan_length  the plan
  *   out, out_length    the slice lent, in bytes; PLANNER_REPORT_MOST are always enough
@@ -105,7 +120,7 @@ uint64_t planner_report(const uint8_t *plan, size_t plan_length, uint8_t *out, s
  *
  *   plan, plan_length  the plan
  *   place              the place
- *   set                the conditions, added: 0 to PLANNER_CONDITIONS_ALL
+ *   set                the conditions, added: 0 to PLANNER_CONDITIONS_ALL; or planner_all_but of one
  *   out, out_count     the slice lent, in records; PLANNER_RUNS_MOST are always enough
  *
  * The answer: planner_refusal and planner_line (1 to 12); where there is no refusal, planner_written, the count of
@@ -119,37 +134,65 @@ uint64_t planner_starts(const uint8_t *plan, size_t plan_length, size_t place, u
 /* Of any call: the number of its refusal (enum planner_refusal_number); 0 where it is answered. */
 static inline uint32_t planner_refusal(uint64_t answer)
 {
-    return (uint32_t)(answer >> 32 & 0xff);
+    return PLANNER_CAST(uint32_t, answer >> 32 & 0xff);
 }
 
 /* Of any call: the line that its refusal is about; 0 where it is about no single line, or the call is answered. */
 static inline uint32_t planner_line(uint64_t answer)
 {
-    return planner_refusal(answer) != 0 ? (uint32_t)answer : 0;
+    return planner_refusal(answer) != 0 ? PLANNER_CAST(uint32_t, answer) : 0;
 }
 
 /* Of planner_outcome: 1 where the activity is placed; 0 where the activity or the call is refused. */
 static inline int planner_is_placed(uint64_t answer)
 {
-    return (int)(answer >> 40 & 1);
+    return PLANNER_CAST(int, answer >> 40 & 1);
 }
 
 /* Of planner_outcome: the start of a placed activity; 0 where the activity or the call is refused. */
 static inline uint32_t planner_start(uint64_t answer)
 {
-    return planner_is_placed(answer) ? (uint32_t)answer : 0;
+    return planner_is_placed(answer) ? PLANNER_CAST(uint32_t, answer) : 0;
 }
 
 /* Of planner_outcome: the conditions of a refused activity; 0 where it is placed, or the call is refused. */
 static inline uint32_t planner_conditions(uint64_t answer)
 {
-    return planner_refusal(answer) == 0 && !planner_is_placed(answer) ? (uint32_t)answer : 0;
+    return planner_refusal(answer) == 0 && !planner_is_placed(answer) ? PLANNER_CAST(uint32_t, answer) : 0;
 }
 
 /* Of planner_report: the bytes written; of planner_starts: the records; 0 where the call is refused. */
 static inline size_t planner_written(uint64_t answer)
 {
-    return planner_refusal(answer) == 0 ? (uint32_t)answer : 0;
+    return planner_refusal(answer) == 0 ? PLANNER_CAST(uint32_t, answer) : 0;
+}
+
+/* From an id to its place: the line of the report that begins with it. SIZE_MAX where there is none, a place that
+ * planner_outcome and planner_starts refuse with PLANNER_REFUSAL_NO_SUCH_PLACE.
+ *
+ *   report, report_length  what planner_report wrote, and its planner_written
+ *   id                     the id, as in the plan */
+static inline size_t planner_place_of(const uint8_t *report, size_t report_length, uint32_t id)
+{
+    size_t place = 0;
+    for (size_t at = 0; at < report_length; at++, place++) {
+        uint32_t number = 0;
+        size_t first = at;
+        for (; at < report_length && report[at] >= '0' && report[at] <= '9'; at++)
+            number = number * 10 + report[at] - '0';
+        if (number == id && at > first)
+            return place;
+        while (at < report_length && report[at] != '\n')
+            at++;
+    }
+    return SIZE_MAX;
+}
+
+/* The set of all conditions but one (or but several, added), for planner_starts: with planner_all_but of
+ * PLANNER_CONDITION_W it gives the starts that the activity would have without windows. */
+static inline uint32_t planner_all_but(uint32_t condition)
+{
+    return PLANNER_CONDITIONS_ALL & ~condition;
 }
 
 /* A refusal's number in words; "unknown refusal" for a number over 12. */
@@ -189,6 +232,8 @@ static inline char planner_letter(uint32_t condition)
     default: return '?';
     }
 }
+
+#undef PLANNER_CAST
 
 #ifdef __cplusplus
 }

@@ -1,9 +1,10 @@
 /* Holds the library to document 01 through planner.h: the worked plan, every refusal and condition, the edges, the
- * greatest numbers, the lent slices.
+ * greatest numbers, the longest report, the most runs, the lent slices.
  *
- *   calls PLAN
+ *   calls WORKED LONGEST_REPORT MOST_RUNS
  *
- * PLAN is examples/worked.plan. Stops at the first check that fails; if none does, says how many passed. */
+ * These are examples/worked.plan and the two of tests/plans. Stops at the first check that fails; if none does, says how
+ * many passed. */
 #include <stdio.h>
 #include <stdlib.h>
 #include <string.h>
@@ -13,6 +14,9 @@
 #define ROOM 5000 /* the most bytes or records lent, more than any answer takes */
 #define GUARD 64  /* guard bytes or records before and behind each slice */
 #define FILL 0xa5 /* what they hold, and the slices before a call */
+
+#define LONGEST_REPORT 1503 /* bytes of the longest report that a plan can have (tests/README.md says why) */
+#define MOST_RUNS 98        /* the most runs that we could make (tests/README.md says how) */
 
 /* The first line of the worked plan and its second, with some fields to be put in. */
 #define P_WITH(horizon, handover) "plan\t" horizon "\t840\t100\t20\t40\t1\t" handover "\t1\t10\t50\t1\n"
@@ -298,8 +302,61 @@ static void conditions_apart(void)
         uint32_t one = (uint32_t)1 << (place - 1);
         CHECK(is_refused(outcome(place), one));
         CHECK(starts(place, one, PLANNER_RUNS_MOST) == 0);
-        CHECK(is_run(place, PLANNER_CONDITIONS_ALL - one, 0, place == 9 ? 3 : 19));
+        CHECK(is_run(place, planner_all_but(one), 0, place == 9 ? 3 : 19));
     }
+}
+
+/* The longest report into as many bytes, and into one less. */
+static void longest_report(const char *text, size_t length)
+{
+    char expected[LONGEST_REPORT + 1], *end = expected;
+    for (int k = 0; k < PLANNER_ACTIVITIES_MOST; k++)
+        end += sprintf(end, "%d\tplaced\t%d\t%d\n", 10000 + k, 1000 + k, 1001 + k);
+    end += sprintf(end, "end\t64\t0\t1000000000\t1000000000\n");
+    CHECK(end == expected + LONGEST_REPORT);
+
+    set_plan(text, length);
+    CHECK(is_report(expected, LONGEST_REPORT));
+    CHECK(is_report(expected, PLANNER_REPORT_MOST));
+    CHECK(is_no(report(LONGEST_REPORT - 1), PLANNER_REFUSAL_SLICE_TOO_SHORT, 0));
+}
+
+/* The most runs into as many records, and into one less. */
+static void most_runs(const char *text, size_t length)
+{
+    set_plan(text, length);
+    CHECK(is_no(starts(63, PLANNER_CONDITIONS_ALL, MOST_RUNS - 1), PLANNER_REFUSAL_SLICE_TOO_SHORT, 0));
+    CHECK(starts(63, planner_all_but(PLANNER_CONDITION_W), PLANNER_RUNS_MOST) == MOST_RUNS - 3);
+    CHECK(starts(63, PLANNER_CONDITIONS_ALL, MOST_RUNS) == MOST_RUNS);
+    CHECK(runs[0].first == 0 && runs[MOST_RUNS - 1].last == 1899);
+    for (int i = 0; i < MOST_RUNS; i++)
+        CHECK(runs[i].first <= runs[i].last && (i == 0 || runs[i - 1].last + 1 < runs[i].first));
+}
+
+/* Where the report says that an activity is, beyond its lines SIZE_MAX. */
+static size_t place_of(uint32_t id)
+{
+    return planner_place_of(out, planner_written(report(PLANNER_REPORT_MOST)), id);
+}
+
+/* The place of an id: on the worked plan, and where the scheduling order isn't that of the lines. */
+static void places(void)
+{
+    static const char priorities[] = P "act\t20\t3\t1\t0\t-\t-\t-\t-\t-\t0\t0\t0\t0\t0\n"
+        "act\t2\t1\t1\t0\t-\t-\t-\t-\t-\t0\t0\t0\t0\t0\n"
+        "act\t0\t2\t1\t0\t-\t-\t-\t-\t-\t0\t0\t0\t0\t0\n"
+        "act\t200\t1\t1\t0\t-\t-\t-\t-\t-\t0\t0\t0\t0\t0\n";
+
+    CHECK(place_of(7) == 0 && place_of(8) == 1 && place_of(9) == 2 && place_of(10) == 3);
+    CHECK(is_placed(outcome(place_of(10)), 15));
+    CHECK(place_of(0) == SIZE_MAX && place_of(1) == SIZE_MAX && place_of(11) == SIZE_MAX);
+    CHECK(is_no(outcome(place_of(11)), PLANNER_REFUSAL_NO_SUCH_PLACE, 0));
+    set_plan(priorities, strlen(priorities));
+    CHECK(place_of(2) == 0 && place_of(200) == 1 && place_of(0) == 2 && place_of(20) == 3);
+    CHECK(place_of(1) == SIZE_MAX && place_of(3) == SIZE_MAX && place_of(2000) == SIZE_MAX);
+    CHECK(planner_place_of(NULL, 0, 0) == SIZE_MAX);
+    set_plan(P, strlen(P));
+    CHECK(place_of(0) == SIZE_MAX);
 }
 
 /* Whether w is the warm-up of entry q: starts w - 1 and w fall into q, and w is the first to meet H. */
@@ -343,9 +400,10 @@ static void edges(void)
     CHECK(may_draw(21) && !may_draw(22));
 }
 
-/* The header's texts, letters and record. */
+/* The header's version, texts, letters, sets and record. */
 static void header(void)
 {
+    CHECK(planner_version() == PLANNER_VERSION);
     for (uint32_t number = 1; number <= 12; number++)
         CHECK(strcmp(planner_refusal_text(number), refusal_texts[number - 1]) == 0);
     CHECK(strcmp(planner_refusal_text(0), "no refusal") == 0);
@@ -354,6 +412,9 @@ static void header(void)
     CHECK(strcmp(planner_refusal_text(UINT32_MAX), "unknown refusal") == 0);
     for (int c = 0; c < 9; c++)
         CHECK(planner_letter((uint32_t)1 << c) == "WDUSEPBVH"[c]);
+    for (uint32_t one = 1; one <= PLANNER_CONDITION_H; one *= 2)
+        CHECK(planner_all_but(one) + one == 511 && (planner_all_but(one) & one) == 0);
+    CHECK(planner_all_but(PLANNER_CONDITION_W + PLANNER_CONDITION_D) == 508 && planner_all_but(0) == 511);
     CHECK(planner_letter(0) == '?' && planner_letter(3) == '?' && planner_letter(512) == '?');
     CHECK(sizeof(struct planner_interval) == 8 && offsetof(struct planner_interval, last) == 4);
 }
@@ -368,8 +429,8 @@ static void parts(void)
     CHECK(planner_written(0) == 0 && planner_written(UINT32_MAX) == UINT32_MAX);
 }
 
-/* Reads the worked plan, which begins with P and A; gives the length. */
-static size_t read_worked(const char *name, char *text, size_t room)
+/* Reads a file that is shorter than the room; gives the length. */
+static size_t read_plan(const char *name, char *text, size_t room)
 {
     FILE *file = fopen(name, "rb");
     if (file == NULL) {
@@ -378,28 +439,33 @@ static size_t read_worked(const char *name, char *text, size_t room)
     }
     size_t length = fread(text, 1, room, file);
     fclose(file);
-    CHECK(strlen(P A) < length && length < room && memcmp(text, P A, strlen(P A)) == 0);
+    CHECK(length < room);
     return length;
 }
 
 int main(int count, char **words)
 {
-    static char worked[1024];
-    if (count != 2) {
-        printf("calls PLAN\n");
+    static char text[4096];
+    if (count != 4) {
+        printf("calls WORKED LONGEST_REPORT MOST_RUNS\n");
         return 1;
     }
-    size_t length = read_worked(words[1], worked, sizeof worked);
     header();
     parts();
     refusals_of_the_plan();
     five_runs();
     conditions_apart();
-    set_plan(worked, length);
+    longest_report(text, read_plan(words[2], text, sizeof text));
+    most_runs(text, read_plan(words[3], text, sizeof text));
+    size_t length = read_plan(words[1], text, sizeof text);
+    CHECK(strlen(P A) < length && memcmp(text, P A, strlen(P A)) == 0);
+    set_plan(text, length);
     answers();
     refusals_of_the_call();
     no_pointer();
     edges();
+    set_plan(text, length);
+    places();
     printf("%lu checks passed\n", passed);
     return 0;
 }

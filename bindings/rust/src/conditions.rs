@@ -1,7 +1,7 @@
 // The nine conditions of document 01 and sets of them.
 
-use std::fmt::{Display, Formatter, Result, Write};
-use std::ops::BitOr;
+use core::fmt::{Display, Formatter, Result, Write};
+use core::ops::BitOr;
 
 /// A condition that a start of an activity must meet beside those placed at earlier places.
 ///
@@ -97,6 +97,21 @@ impl Conditions {
     pub const NONE: Conditions = Conditions(0);
     /// All nine: the starts that meet it are the valid ones.
     pub const ALL: Conditions = Conditions(511);
+
+    /// All but one: the starts that meet it are those that the activity would have without that condition.
+    ///
+    /// ```
+    /// use bovkact_planner::{starts, Condition, Conditions};
+    ///
+    /// let plan = include_bytes!("../../../examples/worked.plan");
+    /// assert_eq!(Conditions::all_but(Condition::W).to_string(), "DUSEPBVH");
+    /// assert_eq!(starts(plan, 1, Conditions::all_but(Condition::D))?, [0..=8]);
+    /// assert_eq!(starts(plan, 1, Conditions::all_but(Condition::W))?, [15..=17]);
+    /// # Ok::<(), bovkact_planner::Refusal>(())
+    /// ```
+    pub const fn all_but(condition: Condition) -> Conditions {
+        Conditions(Conditions::ALL.0 & !condition.bit())
+    }
 
     /// The set that a number stands for.
     pub const fn from_bits(bits: u32) -> Conditions {

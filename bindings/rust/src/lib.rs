@@ -1,10 +1,14 @@
 //! The planner of the seabed stations, proved in Rattle, as safe Rust.
 //!
-//! The calls are those of document 01, over a plan file's bytes. An activity is named by its place, its position in the
-//! scheduling order, from 0. A start is a tick, a minute counted from the plan's beginning.
+//! The calls are those of document 01, over a plan file's bytes. A start is a tick, a minute counted from the plan's
+//! beginning. An activity is named by its place: its position in the scheduling order, from 0. That order is by priority,
+//! the lowest number first, and of equal priorities by line; so a place is neither an id nor a line number. Line k of the
+//! report, counted from 0, is the line of place k, and begins with the activity's id: [`place_of`] looks an id up there.
 //!
 //! ```
-//! use bovkact_planner::{outcome, report, starts, Conditions, Outcome, REPORT_MOST};
+//! use bovkact_planner::{outcome, place_of, report, starts, version, Conditions, Outcome, REPORT_MOST, VERSION};
+//!
+//! assert_eq!(version(), VERSION);
 //!
 //! // 20 ticks; activity 5 takes 4 of them, wants to start at 10, and may start from 0 to 3 and from 12 to 20.
 //! let plan = b"plan\t20\t840\t100\t20\t40\t1\t0\t1\t10\t50\t1\n\
@@ -13,7 +17,9 @@
 //! assert_eq!(outcome(plan, 0)?, Outcome::Placed { start: 12 });
 //! assert_eq!(starts(plan, 0, Conditions::ALL)?, [0..=3, 12..=16]);
 //! let mut room = [0; REPORT_MOST];
-//! assert_eq!(report(plan, &mut room)?, b"5\tplaced\t12\t16\nend\t1\t0\t60\t0\n");
+//! let text = report(plan, &mut room)?;
+//! assert_eq!(text, b"5\tplaced\t12\t16\nend\t1\t0\t60\t0\n");
+//! assert_eq!(place_of(text, 5), Some(0));
 //! # Ok::<(), bovkact_planner::Refusal>(())
 //! ```
 //!
@@ -23,9 +29,15 @@
 //! one call to the next and may run in several threads at once. [`STACK_MOST`] says what stack they take; a thread of
 //! Rust has 2 MB unless it is told otherwise.
 //!
+//! # Without std
+//!
+//! The crate uses `core` alone but for [`starts`], which gives a `Vec` and is there with the feature `alloc`. That
+//! feature is on unless the crate is taken with `default-features = false`; [`starts_into`] needs no heap. The folder
+//! `bindings/firmware` is a library without std that calls the planner.
+//!
 //! # Why it is safe
 //!
-//! The three `unsafe` blocks are the three calls of the library. Its functions are proved for every byte string, place,
+//! The four `unsafe` blocks are the four calls of the library. Its functions are proved for every byte string, place,
 //! set and lent slice, so all that is left to the caller is what a reference of Rust says already:
 //!
 //! - A slice is lent as its own pointer and length. The pointer is not null and is aligned, for an empty slice too, and
@@ -41,8 +53,14 @@
 //! over 12, or a length beyond the slice, panics. Neither can come from the proved library, only from another one
 //! linked in its place.
 
+#![no_std]
 #![deny(missing_docs)]
 #![deny(unsafe_op_in_unsafe_fn)]
+
+#[cfg(feature = "alloc")]
+extern crate alloc;
+#[cfg(test)]
+extern crate std;
 
 mod conditions;
 mod refusal;
@@ -50,10 +68,15 @@ mod refusal;
 pub use conditions::{Condition, Conditions};
 pub use refusal::{Reason, Refusal};
 
-use std::ops::RangeInclusive;
+#[cfg(feature = "alloc")]
+use alloc::vec::Vec;
+use core::ops::RangeInclusive;
 
-#[cfg(not(all(target_arch = "x86_64", target_os = "linux")))]
-compile_error!("libstation.a is for x86-64 Linux");
+#[cfg(not(all(target_arch = "x86_64", any(target_os = "linux", target_os = "none"))))]
+compile_error!("libstation.a is for x86-64, with Linux or without an operating system");
+
+/// The version of the library that this crate is for; [`version`] gives that of the one linked.
+pub const VERSION: u32 = 1;
 
 /// The most bytes of a plan; a longer one is refused.
 pub const PLAN_MOST: usize = 60_000;
@@ -120,6 +143,7 @@ impl From<Interval> for RangeInclusive<u32> {
 
 // As in include/planner.h.
 extern "C" {
+    fn planner_version() -> u32;
     fn planner_outcome(plan: *const u8, plan_length: usize, place: usize) -> u64;
     fn planner_report(plan: *const u8, plan_length: usize, out: *mut u8, out_length: usize) -> u64;
     fn planner_starts(
@@ -161,6 +185,13 @@ fn front<T>(out: &[T], answer: u64) -> Result<&[T], Refusal> {
     Ok(&out[..value(answer)? as usize])
 }
 
+/// The version of the library that is linked. A program that is linked with another library than it was compiled for
+/// finds out by one comparison with [`VERSION`], before its first call.
+pub fn version() -> u32 {
+    // SAFETY: nothing is lent.
+    unsafe { planner_version() }
+}
+
 /// How the activity at a place is answered.
 ///
 /// ```
@@ -179,7 +210,7 @@ pub fn outcome(plan: &[u8], place: usize) -> Result<Outcome, Refusal> {
 
 /// The report of a plan, written to the front of `out` and borrowed from it; [`REPORT_MOST`] bytes are always enough.
 ///
-/// It is ASCII: a line for each place, then the end line.
+/// It is ASCII: a line for each place, place 0 first, then the end line.
 ///
 /// ```
 /// use bovkact_planner::{report, Reason, REPORT_MOST};
@@ -198,6 +229,30 @@ pub fn report<'a>(plan: &[u8], out: &'a mut [u8]) -> Result<&'a [u8], Refusal> {
     front(out, answer)
 }
 
+/// From an id to its place: the line of a report that begins with it. None where no activity has it.
+///
+/// ```
+/// use bovkact_planner::{outcome, place_of, report, Outcome, REPORT_MOST};
+///
+/// let plan = include_bytes!("../../../examples/worked.plan");
+/// let mut room = [0; REPORT_MOST];
+/// let text = report(plan, &mut room)?;
+/// let place = place_of(text, 10).expect("the plan has an activity 10");
+/// assert_eq!(place, 3);
+/// assert_eq!(outcome(plan, place)?, Outcome::Placed { start: 15 });
+/// assert_eq!(place_of(text, 11), None);
+/// # Ok::<(), bovkact_planner::Refusal>(())
+/// ```
+pub fn place_of(report: &[u8], id: u32) -> Option<usize> {
+    report.split(|&byte| byte == b'\n').position(|line| id_of(line) == Some(id))
+}
+
+// The id that a line of a report begins with; none of the end line.
+fn id_of(line: &[u8]) -> Option<u32> {
+    let field = line.split(|&byte| byte == b'\t').next()?;
+    core::str::from_utf8(field).ok()?.parse().ok()
+}
+
 /// The starts of the activity at a place that meet every condition of a set, beside the activities placed at earlier
 /// places: the longest unbroken runs of them, rising.
 ///
@@ -211,6 +266,7 @@ pub fn report<'a>(plan: &[u8], out: &'a mut [u8]) -> Result<&'a [u8], Refusal> {
 /// assert_eq!(starts(plan, 1, Conditions::from_bits(512)).unwrap_err().reason, Reason::SetTooLarge);
 /// # Ok::<(), bovkact_planner::Refusal>(())
 /// ```
+#[cfg(feature = "alloc")]
 pub fn starts(plan: &[u8], place: usize, set: impl Into<Conditions>) -> Result<Vec<RangeInclusive<u32>>, Refusal> {
     let mut room = [Interval::default(); RUNS_MOST];
     Ok(starts_into(plan, place, set, &mut room)?.iter().map(|&run| run.into()).collect())

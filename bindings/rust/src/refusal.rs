@@ -1,7 +1,7 @@
 // The refusals of document 01, "When the planner says no".
 
-use std::error::Error;
-use std::fmt::{Display, Formatter, Result};
+use core::error::Error;
+use core::fmt::{Display, Formatter, Result};
 
 /// Why a call is refused, with document 01's numbers.
 ///

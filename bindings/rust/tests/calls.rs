@@ -166,6 +166,55 @@ fn starts_into_slices_of_every_length() {
     assert_eq!(starts(plan.as_bytes(), 4, Condition::U), Ok(runs.map(|run| run.first..=run.last).to_vec()));
 }
 
+// The longest report that a plan can have (tests/README.md says why): 64 lines of 23 bytes and an end line of 31.
+#[test]
+fn the_longest_report() {
+    let plan = include_bytes!("../../../tests/plans/longest_report.plan");
+    let lines: String = (0..64).map(|k| format!("{}\tplaced\t{}\t{}\n", 10_000 + k, 1_000 + k, 1_001 + k)).collect();
+    let text = lines + "end\t64\t0\t1000000000\t1000000000\n";
+    assert_eq!(text.len(), 1_503);
+    for room in [1_503, 1_504, REPORT_MOST] {
+        let mut bytes = [0xa5; REPORT_MOST];
+        assert_eq!(report(plan, &mut bytes[..room]), Ok(text.as_bytes()));
+        assert!(bytes[1_503..].iter().all(|&byte| byte == 0xa5));
+    }
+    let mut bytes = [0xa5; REPORT_MOST];
+    assert_eq!(report(plan, &mut bytes[..1_502]), refusal(Reason::SliceTooShort));
+    assert!(bytes.iter().all(|&byte| byte == 0xa5));
+}
+
+// The most runs that we could make (tests/README.md says how).
+#[test]
+fn the_most_runs() {
+    let plan = include_bytes!("../../../tests/plans/most_runs.plan");
+    let mut records = [FILLED; RUNS_MOST];
+    let all = starts_into(plan, 63, Conditions::ALL, &mut records[..98]).unwrap().to_vec();
+    assert_eq!(all.len(), 98);
+    assert_eq!((all[0].first, all[97].last), (0, 1899));
+    assert!(all.iter().all(|run| run.first <= run.last));
+    assert!(all.windows(2).all(|pair| pair[0].last + 1 < pair[1].first));
+    assert!(records[98..].iter().all(|&record| record == FILLED));
+    records.fill(FILLED);
+    assert_eq!(starts_into(plan, 63, Conditions::ALL, &mut records[..97]), refusal(Reason::SliceTooShort));
+    assert!(records.iter().all(|&record| record == FILLED));
+    assert_eq!(starts(plan, 63, Conditions::ALL).unwrap().len(), 98);
+    assert_eq!(starts(plan, 63, Conditions::all_but(Condition::W)).unwrap().len(), 95);
+}
+
+// The place of an id, where the scheduling order isn't that of the lines: priorities 3, 1, 2 and 1.
+#[test]
+fn places_of_ids() {
+    let activity = |(id, priority)| changed(2, 1, id).replacen("\t1\t", &format!("\t{priority}\t"), 1);
+    let lines = [("20", 3), ("2", 1), ("0", 2), ("200", 1)].map(activity).concat();
+    let plan = p() + &lines;
+    let mut room = [0; REPORT_MOST];
+    let text = report(plan.as_bytes(), &mut room).unwrap();
+    assert_eq!([2, 200, 0, 20].map(|id| place_of(text, id)), [Some(0), Some(1), Some(2), Some(3)]);
+    assert_eq!([1, 3, 21, 2_000, u32::MAX].map(|id| place_of(text, id)), [None; 5]);
+    assert_eq!(place_of(b"", 0), None);
+    assert_eq!(place_of(b"end\t0\t0\t60\t0\n", 0), None);
+}
+
 // Behind one that has unit 0 in every tick, nine activities that are refused with one condition each, W to H.
 const NINE_REFUSED: &str = "\
 act\t0\t0\t20\t0\t-\t-\t0\t-\t-\t0\t0\t0\t0\t0
@@ -185,7 +234,7 @@ act\t9\t1\t17\t0\t-\t-\t-\t-\t-\t0\t0\t0\t0\t1
 fn conditions_apart() {
     let plan = p() + NINE_REFUSED;
     for (place, one) in (1..).zip(Condition::ALL) {
-        let others = Conditions::from_bits(Conditions::ALL.bits() - one.bit());
+        let others = Conditions::all_but(one);
         let last = if one == Condition::H { 3 } else { 19 };
         assert_eq!(outcome(plan.as_bytes(), place), Ok(Outcome::Refused { conditions: one.into() }));
         assert_eq!(starts(plan.as_bytes(), place, one), Ok(vec![]));
@@ -288,14 +337,8 @@ fn sets() {
     assert_eq!((every.bits(), every.to_string().as_str()), (511, "WDUSEPBVH"));
     assert_eq!(Conditions::NONE.to_string(), "");
     assert_eq!(Condition::H | (Condition::W | Condition::D), Conditions::from_bits(259));
-}
-
-// The header has the same sizes.
-#[test]
-fn sizes() {
-    let header = include_str!("../../../include/planner.h");
-    let sizes = [PLAN_MOST, ACTIVITIES_MOST, REPORT_MOST, RUNS_MOST, STACK_MOST];
-    for (name, size) in ["PLAN", "ACTIVITIES", "REPORT", "RUNS", "STACK"].into_iter().zip(sizes) {
-        assert!(header.contains(&format!("#define PLANNER_{name}_MOST {size} ")), "{name}");
+    for one in Condition::ALL {
+        assert_eq!(Conditions::all_but(one).bits() + one.bit(), 511);
+        assert!(!Conditions::all_but(one).contains(one));
     }
 }

@@ -1,3 +1,4 @@
+pub mod Version
 pub mod Packing
 pub mod Exported
 pub mod Unpacking

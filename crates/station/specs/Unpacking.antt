@@ -1,4 +1,4 @@
--- What the functions of include/planner.h read off the answers of the exported functions, for every byte string s. (`planner_refusal_text` and `planner_letter` are words alone.)
+-- What the functions of include/planner.h read off the answers of the exported functions, for every byte string s. (`planner_refusal_text` and `planner_letter` are words alone; `planner_place_of` reads a report, and `planner_all_but` makes a set.)
 use Prim.Native.Nat.{ℕ, _^_, _<_, _≤_}
 use mathlib.Core.Path.{_≡_}
 use mathlib.Core.Logic.{_≢_}

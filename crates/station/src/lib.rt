@@ -1,9 +1,21 @@
 // The calls for a station's own software, in C or Rust: each answers with one number (specs/Packing.antt).
+ghost use mathlib.Core.Path.{_≡_};
 ghost use Rattle.station.specs.Exported.{OutcomeExported, ReportExported, StartsExported};
+ghost use Rattle.station.specs.Version.{version};
 use rules::Interval;
 
 mod intervals;
 mod packing;
+
+const VERSION: u32 = 1;
+
+// The version of the library (specs/Version.antt).
+#[no_mangle]
+pub extern "C" fn planner_version() -> u32
+    ensures { λ r. ⌜ r ≡ version ⌝ }
+{
+    VERSION
+}
 
 // The outcome of the activity at a place: placed with its start, or refused with its letters.
 #[no_mangle]

@@ -48,7 +48,7 @@ pub struct Answers {
 // Reads a file and schedules it, once for all calls.
 pub fn answers(file: &Generated, random: &mut Random) -> Answers {
     match read(&file.bytes) {
-        Ok(plan) if file.kind == many_runs::KIND => at_last_place(&plan),
+        Ok(plan) if [many_runs::KIND, many_runs::STORED].contains(&file.kind) => at_last_place(&plan),
         Ok(plan) => at_all_places(&plan, random),
         Err(refusal) => refused(refusal, random),
     }

@@ -11,7 +11,7 @@ use differential::commands::{number, status};
 use differential::compare::found;
 use differential::generator::{fixed, generate, Generated};
 use differential::random::Random;
-use many_runs::{many_runs, SHORT};
+use many_runs::{many_runs, stored, SHORT};
 use std::path::Path;
 use std::process::ExitCode;
 use tally::Tally;
@@ -60,9 +60,9 @@ fn at_work(file: &Generated, folder: &Path) -> std::io::Result<()> {
     std::fs::write(folder.join("at-work.plan"), &file.bytes)
 }
 
-// The plans with many runs, the cases worked by hand and the sweep of faults.
+// The plans with many runs, the stored ones, the cases worked by hand and the sweep of faults.
 fn not_from_seeds() -> impl Iterator<Item = Generated> {
-    SHORT.into_iter().map(many_runs).chain(fixed())
+    SHORT.into_iter().map(many_runs).chain(stored()).chain(fixed())
 }
 
 // The calls on the file of a name.

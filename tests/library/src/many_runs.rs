@@ -1,4 +1,5 @@
-// Plans with many runs: short activities on one unit at every second tick, and one more that meets them.
+// Plans with many runs: short activities on one unit at every second tick, and one more that meets them. And the stored
+// plans with the most runs and with the longest report (tests/README.md).
 
 use differential::generator::Generated;
 
@@ -15,6 +16,17 @@ pub fn many_runs(short: usize) -> Generated {
     }
     text += &activity(short, "-");
     Generated { name: format!("many runs {short}"), kind: KIND, bytes: text.into_bytes(), aimed: None }
+}
+
+pub const STORED: &str = "stored";
+
+pub fn stored() -> [Generated; 2] {
+    let plan =
+        |name: &str, bytes: &[u8]| Generated { name: name.into(), kind: STORED, bytes: bytes.into(), aimed: None };
+    [
+        plan("most runs", include_bytes!("../../plans/most_runs.plan")),
+        plan("longest report", include_bytes!("../../plans/longest_report.plan")),
+    ]
 }
 
 fn activity(place: usize, windows: &str) -> String {

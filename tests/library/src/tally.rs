@@ -149,8 +149,8 @@ impl Tally {
         missing.extend(self.starts.lacks_slices("starts"));
         let wanted = [
             ("a placed activity", self.placed > 0),
-            ("a report of 1,000 bytes", self.report.most >= 1_000),
-            ("a list of 64 runs", self.starts.most >= 64),
+            ("a report of 1,503 bytes", self.report.most >= 1_503),
+            ("a list of 98 runs", self.starts.most >= 98),
         ];
         missing.extend(wanted.iter().filter(|(_, seen)| !seen).map(|(what, _)| what.to_string()));
         let letters = LETTERS.chars().filter(|&letter| !self.refused.keys().any(|set| set.contains(letter)));
