@@ -130,9 +130,22 @@ pub fn difference(one: (&str, &[u8]), other: (&str, &[u8])) -> String {
     };
     let (first, second) = (lines(one.1), lines(other.1));
     let at = (0..first.len().max(second.len())).find(|&i| first.get(i) != second.get(i)).unwrap_or(0);
-    let said = |lines: &[String]| lines.get(at).map_or("nothing".to_string(), |line| format!("{line:?}"));
+    let line = |lines: &[String]| lines.get(at).map_or("".to_string(), String::clone);
+    let same = line(&first).chars().zip(line(&second).chars()).take_while(|(one, other)| one == other).count();
+    let said = |lines: &[String]| lines.get(at).map_or("nothing".to_string(), |line| around(line, same));
     format!("line {}: {} {}, {} {}", at + 1, one.0, said(&first), other.0, said(&second))
 }
+
+// A line, or of a long one what stands around a place.
+fn around(line: &str, place: usize) -> String {
+    if line.chars().count() <= LONG {
+        return format!("{line:?}");
+    }
+    let from = place.saturating_sub(LONG / 4);
+    format!("{:?} from {from} on", line.chars().skip(from).take(LONG).collect::<String>())
+}
+
+const LONG: usize = 400;
 
 // Saves a file that shows a difference.
 pub fn found(file: &Generated, folder: &Path, said: String) -> Result<(), String> {

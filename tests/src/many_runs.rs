@@ -8,24 +8,24 @@ pub const SHORT: [usize; 5] = [1, 2, 7, 20, 63];
 pub const KIND: &str = "many runs";
 
 pub fn many_runs(short: usize) -> Generated {
-    file(format!("many runs {short}"), short, 0)
+    file(format!("many runs {short}"), short, "-")
 }
 
-// The same, but the last activity stores more than the plan does.
+// The same, but the last activity has a window where the first one holds the unit: it is refused.
 pub fn many_runs_refused(short: usize) -> Generated {
-    file(format!("many runs refused {short}"), short, 1_001)
+    file(format!("many runs refused {short}"), short, "1:1")
 }
 
-fn file(name: String, short: usize, volume: usize) -> Generated {
+fn file(name: String, short: usize, windows: &str) -> Generated {
     let mut text = format!("plan\t{}\t0\t100\t0\t100\t0\t0\t64\t1000\t1000\t0\n", 2 * short + 2);
     for place in 0..short {
         let tick = 2 * place + 1;
-        text += &activity(place, &format!("{tick}:{tick}"), 0);
+        text += &activity(place, &format!("{tick}:{tick}"));
     }
-    text += &activity(short, "-", volume);
+    text += &activity(short, windows);
     Generated { name, kind: KIND, bytes: text.into_bytes(), aimed: None }
 }
 
-fn activity(place: usize, windows: &str, volume: usize) -> String {
-    format!("act\t{place}\t{place}\t1\t0\t{windows}\t-\t0\t-\t-\t0\t0\t0\t{volume}\t0\n")
+fn activity(place: usize, windows: &str) -> String {
+    format!("act\t{place}\t{place}\t1\t0\t{windows}\t-\t0\t-\t-\t0\t0\t0\t0\t0\n")
 }
