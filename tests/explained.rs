@@ -2,6 +2,7 @@
 
 use differential::cases::{tabs, A, EXAMPLE, P};
 use differential::explain::explain;
+use differential::explain_files::{with_field, ENDS};
 
 fn explained(plan: &[u8]) -> String {
     String::from_utf8(explain(plan)).expect("ASCII")
@@ -195,11 +196,9 @@ fn refusal_9() {
     assert_eq!(text(&P.replace("40 1 0 1", "40 1 61 1")), told);
 }
 
-// The text with a field changed: the line's front is the one before it, and no field behind counts.
-fn with_field(before: &str, line: &str, field: usize, changed: &str) -> String {
-    let mut fields: Vec<&str> = line.trim_end().split(' ').collect();
-    fields[field] = changed;
-    text(&(before.to_string() + &fields.join(" ") + "\n"))
+// The text for a file whose last line has a field changed.
+fn changed(before: &str, line: &str, field: usize, changed: &str) -> String {
+    text(&format!("{before}{}\n", with_field(line.trim_end(), field, changed)))
 }
 
 // What is said behind the line's bytes and the number of fields, with the number at the front.
@@ -231,10 +230,10 @@ fn fields_of_line_1() {
         (11, "heater draw, 0 to 1000000", &["1000001", "9999999999"]),
     ] {
         for malformed in ["", "x", "07", "-", "10000000000"] {
-            check_field(with_field("", P, field, malformed), 1, 12, 3, field, malformed, words);
+            check_field(changed("", P, field, malformed), 1, 12, 3, field, malformed, words);
         }
         for beyond in beyond {
-            check_field(with_field("", P, field, beyond), 1, 12, 4, field, beyond, words);
+            check_field(changed("", P, field, beyond), 1, 12, 4, field, beyond, words);
         }
     }
 }
@@ -262,10 +261,10 @@ fn fields_of_another_line() {
         (14, "warm, 0 or 1", &["2"]),
     ] {
         for malformed in ["", "x", "--", "07"] {
-            check_field(with_field(P, A, field, malformed), 2, 15, 3, field, malformed, words);
+            check_field(changed(P, A, field, malformed), 2, 15, 3, field, malformed, words);
         }
         for beyond in beyond {
-            check_field(with_field(P, A, field, beyond), 2, 15, 4, field, beyond, words);
+            check_field(changed(P, A, field, beyond), 2, 15, 4, field, beyond, words);
         }
         let not_rising = match field {
             5 => &["9:8", "0:1,1:2", "0:0,1:1,2:2,3:3,4:4"][..],
@@ -275,7 +274,7 @@ fn fields_of_another_line() {
             _ => &[],
         };
         for list in not_rising {
-            check_field(with_field(P, A, field, list), 2, 15, 8, field, list, words);
+            check_field(changed(P, A, field, list), 2, 15, 8, field, list, words);
         }
     }
 }
@@ -283,7 +282,7 @@ fn fields_of_another_line() {
 // The first field that is wrong is named, whatever the others draw; a range may hang on a field before it.
 #[test]
 fn the_first_wrong_field() {
-    let two = with_field(P, "act 7 1 5 10 9:8 - x - - 1 4 3 10 2\n", 0, "act");
+    let two = changed(P, "act 7 1 5 10 9:8 - x - - 1 4 3 10 2\n", 0, "act");
     check_field(
         two,
         2,
@@ -293,20 +292,29 @@ fn the_first_wrong_field() {
         "9:8",
         "windows, - or up to 4 of the form a:b, 0 to 4095, each a at most its b and above the b before",
     );
-    let two = with_field(P, "act 7 65536 5 10 9:8 - 0 - - 1 4 3 10 07\n", 0, "act");
+    let two = changed(P, "act 7 65536 5 10 9:8 - 0 - - 1 4 3 10 07\n", 0, "act");
     check_field(two, 2, 15, 4, 2, "65536", "priority, 0 to 65535");
-    check_field(with_field("", P, 3, "19"), 1, 12, 4, 4, "20", "floor, 0 to the capacity");
-    check_field(with_field("", P, 3, "39"), 1, 12, 4, 5, "40", "first charge, the floor to the capacity");
-    check_field(with_field("", P, 4, "41"), 1, 12, 4, 5, "40", "first charge, the floor to the capacity");
-    check_field(
-        with_field(&P.replace("plan 20", "plan 4"), A, 0, "act"),
-        2,
-        15,
-        4,
-        3,
-        "5",
-        "duration, 1 to the horizon",
-    );
+    check_field(changed("", P, 3, "19"), 1, 12, 4, 4, "20", "floor, 0 to the capacity");
+    check_field(changed("", P, 3, "39"), 1, 12, 4, 5, "40", "first charge, the floor to the capacity");
+    check_field(changed("", P, 4, "41"), 1, 12, 4, 5, "40", "first charge, the floor to the capacity");
+    check_field(changed(&P.replace("plan 20", "plan 4"), A, 0, "act"), 2, 15, 4, 3, "5", "duration, 1 to the horizon");
+}
+
+// A number or list at an end of its range is right: the fault behind it is named.
+#[test]
+fn fields_at_the_ends_of_their_ranges() {
+    for (first, other) in ENDS {
+        for field in 1..=11 {
+            let said = text(&(with_field(first, field, "x") + "\n"));
+            assert!(said.starts_with("refused 3 at line 1: "), "{said}");
+            assert!(said.contains(&format!("\nfields: 12\nfield {field}: x\nmust be: ")), "{said}");
+        }
+        for field in 1..=14 {
+            let said = text(&format!("{first}\n{}\n", with_field(other, field, "x")));
+            assert!(said.starts_with("refused 3 at line 2: "), "{said}");
+            assert!(said.contains(&format!("\nfields: 15\nfield {field}: x\nmust be: ")), "{said}");
+        }
+    }
 }
 
 // T 10, from 14:00, where a warm-up is 4 ticks; a charge of 50 that remains; 1 engine, a peak and a volume of 10.

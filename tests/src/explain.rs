@@ -81,15 +81,18 @@ fn refused(bytes: &[u8], refusal: Refusal) -> String {
     if line == 0 {
         return said;
     }
-    let (whole, fields) = (line_of(bytes, line), fields_of(bytes, line));
+    let fields = fields_of(bytes, line);
     let must_be = if line == 1 { &FIRST_LINE[..] } else { &OTHER_LINE[..] };
-    let about = format!("line {line}: {}\nfields: {}\n", shown(whole), fields.len());
+    let about = said + &numbered("line", line, line_of(bytes, line)) + &format!("fields: {}\n", fields.len());
     match field_of(bytes, refusal) {
-        None => format!("{said}{about}must be: {}\n", must_be[0]),
-        Some(field) => {
-            format!("{said}{about}field {field}: {}\nmust be: {}\n", shown(fields[field]), must_be[field])
-        }
+        None => about + &format!("must be: {}\n", must_be[0]),
+        Some(field) => about + &numbered("field", field, fields[field]) + &format!("must be: {}\n", must_be[field]),
     }
+}
+
+// A line or field with its number and bytes. Where these are none or end in a space, so does the line of the text.
+fn numbered(name: &str, number: usize, bytes: &[u8]) -> String {
+    format!("{name} {number}: {}\n", shown(bytes))
 }
 
 // All bytes of a line, counted from 1.

@@ -81,7 +81,7 @@ const MANY: u64 = 2_000;
 
 fn check_seeds(seeds: std::ops::Range<u64>, folder: &Path) -> Result<(), String> {
     let many = seeds.end - seeds.start >= MANY;
-    check_files(fixed().into_iter().chain(seeds.map(generate)), many, folder)
+    check_files(explain_files().into_iter().chain(seeds.map(generate)), many, folder)
 }
 
 // The check of each file and the tally; with `all`, everything in it must have turned up.
