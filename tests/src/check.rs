@@ -2,22 +2,25 @@
 
 use crate::calls::{letters, no, outcome, output, report, report_of, starts, starts_in};
 use crate::demand::{check_report, ensure};
-use crate::faults::first_fault;
+use crate::explain_check;
+use crate::faults::{first_fault, Fault};
 use crate::generator::Generated;
 use crate::placing::{schedule, Outcome, Schedule};
 use crate::plan::Plan;
 use crate::reading::{read, refuse, Refusal};
 use crate::tally::Tally;
 
-// Reading, then every line of the report, then the calls.
+// Reading, then every line of the report and of explain's text, then the calls.
 pub fn check(file: &Generated, tally: &mut Tally) -> Result<(), String> {
     tally.kind(file.kind);
-    let fault = first_fault(&file.bytes).map(|fault| fault.refusal());
-    ensure(file.aimed.is_none() || file.aimed == fault, || format!("aimed at {:?}, found {fault:?}", file.aimed))?;
+    let fault = first_fault(&file.bytes);
+    let drawn = fault.as_ref().map(Fault::refusal);
+    ensure(file.aimed.is_none() || file.aimed == drawn, || format!("aimed at {:?}, found {drawn:?}", file.aimed))?;
     match (read(&file.bytes), fault) {
         (Err(refusal), Some(fault)) => {
-            ensure(refusal == fault, || format!("refused with {refusal:?}, not {fault:?}"))?;
+            ensure(refusal == fault.refusal(), || format!("refused with {refusal:?}, not {fault:?}"))?;
             tally.number(refusal.number);
+            explain_check::check_refused(&file.bytes, &fault)?;
             check_refused_calls(&file.bytes, refusal)
         }
         (Ok(plan), None) => {
@@ -51,6 +54,7 @@ fn check_accepted(plan: &Plan, bytes: &[u8], tally: &mut Tally) -> Result<(), St
         })?;
         check_starts(&schedule, place, tables, tally)?;
     }
+    explain_check::check_accepted(bytes, &text, &tables)?;
     // The calls place all again at each turn.
     if plan.horizon * (plan.activities.len() as i64 + 1) <= 1_000 {
         check_calls(bytes, &text, &schedule, tally)?;

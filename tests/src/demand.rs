@@ -4,7 +4,7 @@ use crate::plan::Plan;
 use crate::second::{tables, warm_up_table, warmth, Interval};
 use crate::tally::Tally;
 
-const LETTERS: &str = "WDUSEPBVH";
+pub const LETTERS: &str = "WDUSEPBVH";
 
 // A line of the report without its id.
 #[derive(Debug, PartialEq)]
@@ -109,7 +109,7 @@ fn check_line(
 }
 
 // The starts that meet each chosen letter, letters by number.
-fn in_common(tables: &[Vec<bool>], chosen: impl Fn(usize) -> bool) -> Vec<i64> {
+pub fn in_common(tables: &[Vec<bool>], chosen: impl Fn(usize) -> bool) -> Vec<i64> {
     let met = |s: i64| (0..9).filter(|&c| chosen(c)).all(|c| tables[c][s as usize]);
     (0..tables[0].len() as i64).filter(|&s| met(s)).collect()
 }

@@ -3,6 +3,7 @@
 // The scheduler.
 pub mod calls;
 pub mod conditions;
+pub mod explain;
 pub mod placing;
 pub mod plan;
 pub mod reading;
@@ -10,21 +11,25 @@ pub mod reading;
 // Plans made from a seed, and those of full size.
 mod aim;
 mod damage;
+pub mod explain_files;
 mod extremes;
 pub mod full;
 pub mod generator;
 mod knots;
+pub mod many_runs;
 pub mod random;
 
 // Checks.
 pub mod cases;
 pub mod check;
 mod demand;
+mod explain_check;
+pub mod explain_tally;
 mod faults;
 mod second;
 pub mod tally;
 
-// The stored corpus, another planner, and what the programs' commands share.
+// The stored corpus, other programs, and what the programs' commands share.
 pub mod commands;
 pub mod compare;
 pub mod corpus;

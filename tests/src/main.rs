@@ -3,8 +3,11 @@
 use differential::calls::output;
 use differential::check::check;
 use differential::commands::{number, status};
-use differential::compare::{difference, found, run};
+use differential::compare::{agreed, difference, found, Program};
 use differential::corpus;
+use differential::explain::explain;
+use differential::explain_files::explain_files;
+use differential::explain_tally::ExplainTally;
 use differential::full::{full, KINDS};
 use differential::generator::{fixed, generate, Generated};
 use differential::limits::limits;
@@ -18,10 +21,14 @@ use std::process::ExitCode;
 const USE: &str = "differential check FIRST COUNT FOLDER            the scheduler's own check on COUNT seeds
 differential compare PLANNER FIRST COUNT FOLDER  a planner against the scheduler
 differential limits PLANNER FOLDER               a planner at the limits of its input
+differential compare explain EXPLAIN FIRST COUNT FOLDER
+                                                 a program with explain's text against the scheduler
+differential limits explain EXPLAIN FOLDER       such a program at the limits of its input
 differential stored CORPUS FOLDER                the stored corpus: its answers and the check of its plans
 differential corpus CORPUS                       write the corpus anew
 differential answers                             answers to a corpus stream on standard input
 differential output                              what the program prints for a plan on standard input
+differential explain                             explain's text for a plan on standard input
 differential readings                            what is read of a stored set of files on standard input
 differential full                                the kinds of full-size plans
 differential full KIND                           the full-size plan of a kind
@@ -33,13 +40,20 @@ fn main() -> ExitCode {
     let words: Vec<&str> = words.iter().map(String::as_str).collect();
     let done = match words[..] {
         ["check", first, count, folder] => check_seeds(seeds(first, count), Path::new(folder)),
-        ["compare", planner, first, count, folder] => compare(planner, seeds(first, count), Path::new(folder)),
-        ["limits", planner, folder] => check_limits(planner, Path::new(folder)),
+        ["compare", planner, first, count, folder] => compare_planner(planner, seeds(first, count), Path::new(folder)),
+        ["limits", planner, folder] => check_limits(&Program::planner(planner), Path::new(folder)),
+        ["compare", "explain", program, first, count, folder] => {
+            compare_explain(program, seeds(first, count), Path::new(folder))
+        }
+        ["limits", "explain", program, folder] => {
+            Program::explain(program).and_then(|program| check_limits(&program, Path::new(folder)))
+        }
         ["stored", corpus, folder] => check_corpus(Path::new(corpus), Path::new(folder)),
         ["corpus", folder] => write_corpus(Path::new(folder)),
         ["answers"] => print(corpus::answers(&input()).ok_or("the stream is malformed".to_string())),
         ["readings"] => print(readings(&input()).ok_or("the set is malformed".to_string())),
         ["output"] => print(Ok(output(&input()))),
+        ["explain"] => print(Ok(explain(&input()))),
         ["full"] => print(Ok(KINDS.iter().map(|kind| format!("{}\t{}\n", kind.0, kind.1)).collect::<String>().into())),
         ["full", kind] => print(full(kind).ok_or(format!("no kind {kind}"))),
         ["plan", seed] => print(Ok(generate(number(seed)).bytes)),
@@ -67,7 +81,7 @@ const MANY: u64 = 2_000;
 
 fn check_seeds(seeds: std::ops::Range<u64>, folder: &Path) -> Result<(), String> {
     let many = seeds.end - seeds.start >= MANY;
-    check_files(fixed().into_iter().chain(seeds.map(generate)), many, folder)
+    check_files(explain_files().into_iter().chain(seeds.map(generate)), many, folder)
 }
 
 // The check of each file and the tally; with `all`, everything in it must have turned up.
@@ -103,24 +117,45 @@ fn check_corpus(corpus: &Path, folder: &Path) -> Result<(), String> {
 }
 
 // A planner against the scheduler, and the tally of what both printed.
-fn compare(planner: &str, seeds: std::ops::Range<u64>, folder: &Path) -> Result<(), String> {
+fn compare_planner(planner: &str, seeds: std::ops::Range<u64>, folder: &Path) -> Result<(), String> {
     let many = seeds.end - seeds.start >= MANY;
     let mut tally = Tally::default();
-    for file in fixed().into_iter().chain(seeds.map(generate)) {
-        let own = output(&file.bytes);
-        match run(planner, &file.bytes) {
-            Ok(text) if text == own => tally.printed(file.kind, &text),
-            Ok(text) => return found(&file, folder, difference(("planner", &text), ("scheduler", &own))),
-            Err(said) => return found(&file, folder, said),
-        }
-    }
+    let files = fixed().into_iter().chain(seeds.map(generate));
+    compare(&Program::planner(planner), files, folder, |kind, text| tally.printed(kind, text))?;
     println!("{}", tally.of_printed());
     all_turned_up(many, tally.missing_printed())
 }
 
-// A planner at the limits of its input.
-fn check_limits(planner: &str, folder: &Path) -> Result<(), String> {
-    for tried in limits(planner, folder)? {
+// The same of explain.
+fn compare_explain(program: &str, seeds: std::ops::Range<u64>, folder: &Path) -> Result<(), String> {
+    let many = seeds.end - seeds.start >= MANY;
+    let mut tally = ExplainTally::default();
+    let files = explain_files().into_iter().chain(seeds.map(generate));
+    let program = Program::explain(program)?;
+    compare(&program, files, folder, |kind, text| tally.explained(kind, text))?;
+    println!("{tally}\n  status       0 with an accepted plan, {} with a refused file", program.refused);
+    all_turned_up(many, tally.missing())
+}
+
+// A program against the scheduler on each file; `printed` gets what both printed, with the file's kind.
+fn compare(
+    program: &Program,
+    files: impl Iterator<Item = Generated>,
+    folder: &Path,
+    mut printed: impl FnMut(&'static str, &[u8]),
+) -> Result<(), String> {
+    for file in files {
+        match agreed(program, &file.bytes) {
+            Ok(text) => printed(file.kind, &text),
+            Err(said) => return found(&file, folder, said),
+        }
+    }
+    Ok(())
+}
+
+// A program at the limits of its input.
+fn check_limits(program: &Program, folder: &Path) -> Result<(), String> {
+    for tried in limits(program, folder)? {
         println!("  {tried}");
     }
     Ok(())

@@ -108,7 +108,7 @@ fn read_activity(fields: &[&[u8]], horizon: i64) -> Result<Activity, u32> {
 }
 
 // Up to 4 windows, each `a:b`, each beginning after the last one's end.
-fn windows(field: &[u8]) -> Result<Vec<(i64, i64)>, u32> {
+pub fn windows(field: &[u8]) -> Result<Vec<(i64, i64)>, u32> {
     let list = items(field, |item| pair(item, b':'))?;
     if list.iter().any(|&(a, b)| a > 4_095 || b > 4_095) {
         return Err(4);
@@ -121,7 +121,7 @@ fn windows(field: &[u8]) -> Result<Vec<(i64, i64)>, u32> {
 }
 
 // Up to `most` numbers, none above `high`, rising.
-fn numbers(field: &[u8], high: i64, most: usize) -> Result<Vec<i64>, u32> {
+pub fn numbers(field: &[u8], high: i64, most: usize) -> Result<Vec<i64>, u32> {
     let list = items(field, digits)?;
     if list.iter().any(|&n| n > high) {
         return Err(4);
@@ -133,7 +133,7 @@ fn numbers(field: &[u8], high: i64, most: usize) -> Result<Vec<i64>, u32> {
 }
 
 // Up to 4 `v=k`, the variables rising.
-fn values(field: &[u8]) -> Result<Vec<(i64, i64)>, u32> {
+pub fn values(field: &[u8]) -> Result<Vec<(i64, i64)>, u32> {
     let list = items(field, |item| pair(item, b'='))?;
     if list.iter().any(|&(v, k)| v > 7 || k > 255) {
         return Err(4);
@@ -145,7 +145,7 @@ fn values(field: &[u8]) -> Result<Vec<(i64, i64)>, u32> {
 }
 
 // A field of one number.
-fn number(field: &[u8], low: i64, high: i64) -> Result<i64, u32> {
+pub fn number(field: &[u8], low: i64, high: i64) -> Result<i64, u32> {
     match digits(field) {
         None => Err(3),
         Some(n) if n < low || n > high => Err(4),
@@ -171,7 +171,7 @@ fn pair(item: &[u8], between: u8) -> Option<(i64, i64)> {
 }
 
 // A number: 1 to 10 digits, no leading zero unless it is 0.
-fn digits(text: &[u8]) -> Option<i64> {
+pub fn digits(text: &[u8]) -> Option<i64> {
     if text.is_empty() || text.len() > 10 || (text[0] == b'0' && text.len() > 1) {
         return None;
     }

@@ -116,7 +116,7 @@ impl Tally {
     }
 }
 
-fn row<K: fmt::Display, N: fmt::Display>(counts: &BTreeMap<K, N>) -> String {
+pub fn row<K: fmt::Display, N: fmt::Display>(counts: &BTreeMap<K, N>) -> String {
     counts.iter().map(|(key, count)| format!("{key} {count}")).collect::<Vec<_>>().join(", ")
 }
 

@@ -1,10 +1,10 @@
 // The calls made on a file, with the scheduler's answers.
 
-use crate::many_runs;
 use crate::raw::of_outcome;
 use crate::trial::{Answer, Asked, Call};
 use differential::calls::{outcome_in, report_of, starts_in};
 use differential::generator::Generated;
+use differential::many_runs;
 use differential::placing::{schedule, ALL};
 use differential::plan::Plan;
 use differential::random::Random;

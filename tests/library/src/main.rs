@@ -2,7 +2,6 @@
 
 mod asked;
 mod lent;
-mod many_runs;
 mod raw;
 mod tally;
 mod trial;
@@ -10,8 +9,8 @@ mod trial;
 use differential::commands::{number, status};
 use differential::compare::found;
 use differential::generator::{fixed, generate, Generated};
+use differential::many_runs::{many_runs, stored, SHORT};
 use differential::random::Random;
-use many_runs::{many_runs, stored, SHORT};
 use std::path::Path;
 use std::process::ExitCode;
 use tally::Tally;
