@@ -28,6 +28,7 @@ use Rattle.state.specs.Standing.{laterValue, standingBy}
 use Rattle.state.specs.Own.{changeAt, unmetAt, judged, ownMet}
 use Rattle.state.specs.Spoils.{never, canSpoil, spoilAt, spoiltBy, placedMet}
 use Rattle.state.specs.State.{needsMet, stateMet}
+use Rattle.state.proofs.CodesTable.{judged-none}
 use Rattle.state.proofs.Added.{met-before, spoilOf, spoils-not, spoils-at, held-all, held-at}
 
 -- ---- rows and lists by their numbers
@@ -164,10 +165,6 @@ module _ (h : Header) (ticks settings : List ℕ) (n : ℕ) (placed : Schedule) 
       unfolding judged
       judged-is = rw (code-is settings n a S (F .needs) j l, eqb·suc-zero) refl
 
-    judged-none : (j : ℕ) → j < 4 → length (a .needs) ≤ j → judged settings n j ≡ 0
-    unfolding judged
-    judged-none j l k = rw (code-none settings n a S (F .needs) j l k) refl
-
     abbrev holdsAll : Entry → Setting → Bool
     holdsAll e m = each (λ i. met (c ∷ placed) (e .start + i) m) (e .activity .duration)
 
@@ -192,7 +189,7 @@ module _ (h : Header) (ticks settings : List ℕ) (n : ℕ) (placed : Schedule) 
             own-none j g
             (λ t r. sym (met-before placed c t (need j g) (holds-till t c r)) ∙ held-at (c ∷ placed) c (need j g) (every-mem (holdsAll c) (a .needs) q (element-in (a .needs) j g)) t r)
             k
-        go j l k m (no g) = absurd (omega (arith, judged-none j l (omega arith)))
+        go j l k m (no g) = absurd (omega (arith, judged-none settings n j (code-none settings n a S (F .needs) j l (omega arith))))
 
     -- ---- the needs of the placed
     abbrev spoilt : ℕ → ℕ → Bool
