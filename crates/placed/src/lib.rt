@@ -10,6 +10,9 @@ mod settings;
 mod ticks;
 mod units;
 
+// A tick past every end.
+pub const NEVER: u16 = 4097;
+
 pub use amounts::total_volume;
 pub use amounts::wide;
 pub use row::put_candidate;

@@ -13,8 +13,9 @@ use Rattle.rules.proofs.Tests.{each-at, each-all}
 use Rattle.rules.proofs.Lists.{each-same}
 use Rattle.rules.proofs.Local.{bool-ext}
 use Rattle.placed.specs.Tables.{endAt}
+use Rattle.placed.specs.Bounds.{never}
 use Rattle.state.specs.Own.{ownMet}
-use Rattle.state.specs.Spoils.{never, spoilAt, spoiltBy, spoilIn, placedMet, SpoilsRight}
+use Rattle.state.specs.Spoils.{spoilAt, spoiltBy, spoilIn, placedMet, SpoilsRight}
 use Rattle.state.specs.State.{needsMet, stateMet}
 
 -- a test of the first r numbers is one of all n, where it holds from r on

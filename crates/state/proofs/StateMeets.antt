@@ -21,12 +21,13 @@ use Rattle.rules.proofs.Tests.{each-at, each-all, every-mem, and-left, and-righ
 use Rattle.rules.proofs.Every.{every-all}
 use Rattle.rules.proofs.Local.{bool-ext, holds-of, holds-from, holds-till, met-by-edges}
 use Rattle.placed.specs.Tables.{startAt, endAt, setAt, needVariableAt, needCodeAt}
+use Rattle.placed.specs.Bounds.{never}
 use Rattle.placed.specs.Held.{codeOf, settingAt, TicksAt, SettingsAt, Rows, Reached}
 use Rattle.placed.proofs.Rows.{row-at}
 use Rattle.state.specs.declared.standing.StandingValue.{StandingValue}
 use Rattle.state.specs.Standing.{laterValue, standingBy}
 use Rattle.state.specs.Own.{changeAt, unmetAt, judged, ownMet}
-use Rattle.state.specs.Spoils.{never, canSpoil, spoilAt, spoiltBy, placedMet}
+use Rattle.state.specs.Spoils.{canSpoil, spoilAt, spoiltBy, placedMet}
 use Rattle.state.specs.State.{needsMet, stateMet}
 use Rattle.state.proofs.CodesTable.{judged-none}
 use Rattle.state.proofs.Added.{met-before, spoilOf, spoils-not, spoils-at, held-all, held-at}

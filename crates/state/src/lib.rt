@@ -13,6 +13,7 @@ ghost use Rattle.state.specs.Spoils.{spoilIn};
 ghost use Rattle.state.specs.State.{needsMet, stateMet};
 use own::fill_codes;
 use own::own_needs_met;
+use placed::NEVER;
 use sets::table::raise;
 use spoils::fill_spoils;
 use spoils::placed_needs_met;
@@ -79,7 +80,7 @@ pub fn mark_state<'a>(
 {
     let mut codes = [0u16; 256];
     fill_codes(ticks, settings, n, &mut codes);
-    let mut spoils = [4097u16; 256];
+    let mut spoils = [NEVER; 256];
     fill_spoils(ticks, settings, n, &mut spoils);
     let rows = rows_spoilt(&spoils, n);
     mark_needs(

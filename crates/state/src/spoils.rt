@@ -4,14 +4,15 @@ ghost use mathlib.Core.List.{List};
 ghost use Prim.Native.Nat.{ℕ, _+_, _<_, _≤_};
 ghost use lib.ListN.{length};
 ghost use Rattle.placed.specs.Tables.{endAt};
-ghost use Rattle.placed.specs.Bounds.{SettingsBounded};
-ghost use Rattle.state.specs.Spoils.{never, canSpoil, spoilAt, spoiltBy, spoilIn, placedMet, SpoilsRight};
+ghost use Rattle.placed.specs.Bounds.{never, SettingsBounded};
+ghost use Rattle.state.specs.Spoils.{canSpoil, spoilAt, spoiltBy, spoilIn, placedMet, SpoilsRight};
 use crate::rows::end_at;
 use crate::rows::need_code_at;
 use crate::rows::need_variable_at;
 use crate::rows::set_at;
 use crate::rows::start_at;
 use crate::standing::standing_at;
+use placed::NEVER;
 
 // Whether a set can spoil a need: both are there, and of different values.
 fn can_spoil(set: u16, need: u16) -> bool
@@ -26,7 +27,7 @@ fn can_spoil(set: u16, need: u16) -> bool
     set != need
 }
 
-// The first tick of effect at which the sets of row `n` spoil need number `j` of row `p`; 4,097 for never.
+// The first tick of effect at which the sets of row `n` spoil need number `j` of row `p`; `NEVER` where they spoil it at none.
 fn spoil_at<'a>(
     ticks: &'a [u16; 256],
     settings: &'a [u16; 1024],
@@ -42,7 +43,7 @@ fn spoil_at<'a>(
         let standing = standing_at(ticks, settings, n, variable, start_at(ticks, p));
         return standing.since;
     }
-    4097
+    NEVER
 }
 
 // Writes the first tick of effect that spoils each need of the first `n`, four to an activity.
@@ -67,7 +68,7 @@ pub fn rows_spoilt(spoils: &[u16; 256], n: usize) -> usize
 {
     let mut k = n * 4;
     while 0 < k {
-        if spoils[k - 1] < 4097 {
+        if spoils[k - 1] < NEVER {
             return (k + 3) / 4;
         }
         k -= 1;
