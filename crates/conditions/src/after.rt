@@ -7,6 +7,7 @@ ghost use Rattle.placed.specs.Bounds.{never};
 ghost use Rattle.sets.specs.Table.{Marked, Markable};
 ghost use Rattle.conditions.specs.Ended.{firstEnd, readyFrom};
 use placed::NEVER;
+use placed::TICK_CELLS;
 use sets::table::mark_from;
 
 // The smaller of two numbers.
@@ -31,7 +32,7 @@ fn end_if(id: u16, sought: u32, end: u16) -> u16
 }
 
 // The earliest end of the placed activities of this id, `NEVER` where there is none.
-fn first_end(ticks: &[u16; 256], n: usize, id: u32) -> u16
+fn first_end(ticks: &[u16; TICK_CELLS], n: usize, id: u32) -> u16
     requires { ⌜ n ≤ 64 ⌝ }
     ensures { λ r. ⌜ r ≡ firstEnd (now (ticks .entry)) id n ⌝ }
 {
@@ -43,7 +44,7 @@ fn first_end(ticks: &[u16; 256], n: usize, id: u32) -> u16
 }
 
 // The first start at which each of the first `count` in `after` is placed and has ended, `NEVER` where one is not placed.
-fn ready_from<'a>(ticks: &'a [u16; 256], n: usize, after: &'a [u32; 8], count: usize) -> u16
+fn ready_from<'a>(ticks: &'a [u16; TICK_CELLS], n: usize, after: &'a [u32; 8], count: usize) -> u16
     requires { ⌜ (n ≤ 64) × (count ≤ 8) ⌝ }
     ensures { λ r. ⌜ r ≡ readyFrom (now (ticks .entry)) n (now (after .entry)) count ⌝ }
 {
@@ -56,7 +57,7 @@ fn ready_from<'a>(ticks: &'a [u16; 256], n: usize, after: &'a [u32; 8], count: u
 
 // Marks the starts that meet D.
 pub fn mark_after<'a>(
-    ticks: &'a [u16; 256],
+    ticks: &'a [u16; TICK_CELLS],
     n: usize,
     after: &'a [u32; 8],
     after_count: usize,

@@ -14,6 +14,9 @@ ghost use Rattle.state.specs.State.{needsMet, stateMet};
 use own::fill_codes;
 use own::own_needs_met;
 use placed::NEVER;
+use placed::SETTING_CELLS;
+use placed::TICK_CELLS;
+use rows::NEED_CELLS;
 use sets::table::raise;
 use spoils::fill_spoils;
 use spoils::placed_needs_met;
@@ -21,10 +24,10 @@ use spoils::rows_spoilt;
 
 // Whether every need is met with the candidate at `start`; of the placed, those of the first `rows` are judged.
 fn needs_met<'a>(
-    ticks: &'a [u16; 256],
-    settings: &'a [u16; 1024],
-    codes: &'a [u16; 256],
-    spoils: &'a [u16; 256],
+    ticks: &'a [u16; TICK_CELLS],
+    settings: &'a [u16; SETTING_CELLS],
+    codes: &'a [u16; NEED_CELLS],
+    spoils: &'a [u16; NEED_CELLS],
     n: usize,
     rows: usize,
     duration: u32,
@@ -43,10 +46,10 @@ fn needs_met<'a>(
 
 // Adds `by` at each start below `count` with which every need is met.
 fn mark_needs<'a>(
-    ticks: &'a [u16; 256],
-    settings: &'a [u16; 1024],
-    codes: &'a [u16; 256],
-    spoils: &'a [u16; 256],
+    ticks: &'a [u16; TICK_CELLS],
+    settings: &'a [u16; SETTING_CELLS],
+    codes: &'a [u16; NEED_CELLS],
+    spoils: &'a [u16; NEED_CELLS],
     n: usize,
     rows: usize,
     duration: u32,
@@ -66,8 +69,8 @@ fn mark_needs<'a>(
 
 // Adds `by` at each start below `count` that meets S; row `n` is the candidate's.
 pub fn mark_state<'a>(
-    ticks: &'a [u16; 256],
-    settings: &'a [u16; 1024],
+    ticks: &'a [u16; TICK_CELLS],
+    settings: &'a [u16; SETTING_CELLS],
     n: usize,
     duration: u32,
     count: u32,
@@ -78,9 +81,9 @@ pub fn mark_state<'a>(
     requires { ⌜ (count + duration ≤ 4097) × Markable by count (now table) ⌝ }
     ensures { λ _. ⌜ Marked (stateMet (now (ticks .entry)) (now (settings .entry)) n duration) by count (now (table .entry)) (now (table .exit)) ⌝ }
 {
-    let mut codes = [0u16; 256];
+    let mut codes = [0u16; NEED_CELLS];
     fill_codes(ticks, settings, n, &mut codes);
-    let mut spoils = [NEVER; 256];
+    let mut spoils = [NEVER; NEED_CELLS];
     fill_spoils(ticks, settings, n, &mut spoils);
     let rows = rows_spoilt(&spoils, n);
     mark_needs(

@@ -6,13 +6,16 @@ ghost use Rattle.placed.specs.Tables.{needVariableAt, needCodeAt};
 ghost use Rattle.placed.specs.Bounds.{SettingsBounded};
 ghost use Rattle.state.specs.Standing.{standingBy};
 ghost use Rattle.state.specs.Own.{changeAt, codeAtEnd, unmetAt, judged, ownMet, CodesRight};
+use crate::rows::NEED_CELLS;
 use crate::rows::end_at;
 use crate::rows::need_code_at;
 use crate::rows::need_variable_at;
 use crate::standing::standing_at;
+use placed::SETTING_CELLS;
+use placed::TICK_CELLS;
 
 // The tick number `k` at which a need is judged: the end of a placed activity, or the start.
-fn change_at(ticks: &[u16; 256], n: usize, k: usize, start: u16) -> u16
+fn change_at(ticks: &[u16; TICK_CELLS], n: usize, k: usize, start: u16) -> u16
     requires { ⌜ n < 64 ⌝ }
     ensures { λ r. ⌜ r ≡ changeAt (now (ticks .entry)) n k start ⌝ }
 {
@@ -24,8 +27,8 @@ fn change_at(ticks: &[u16; 256], n: usize, k: usize, start: u16) -> u16
 
 // The code that stands of the variable of need number `j` of row `n` at the end of row `k`; 0 where there is no such need.
 fn code_at_end<'a>(
-    ticks: &'a [u16; 256],
-    settings: &'a [u16; 1024],
+    ticks: &'a [u16; TICK_CELLS],
+    settings: &'a [u16; SETTING_CELLS],
     n: usize,
     j: usize,
     k: usize,
@@ -43,10 +46,10 @@ fn code_at_end<'a>(
 
 // Writes the codes that stand at the ends of the first `n`, four to an activity, one for each need of row `n`.
 pub fn fill_codes<'a>(
-    ticks: &'a [u16; 256],
-    settings: &'a [u16; 1024],
+    ticks: &'a [u16; TICK_CELLS],
+    settings: &'a [u16; SETTING_CELLS],
     n: usize,
-    codes: &mut [u16; 256],
+    codes: &mut [u16; NEED_CELLS],
 )
     requires { ⌜ (n < 64) × SettingsBounded (now settings) (n + 1) × (length (now codes) ≡ 256) ⌝ }
     ensures { λ _. ⌜ CodesRight (now (ticks .entry)) (now (settings .entry)) n (now (codes .exit)) ⌝ }
@@ -58,9 +61,9 @@ pub fn fill_codes<'a>(
 
 // The code that stands of the variable of need number `j` of row `n` at the tick number `k`.
 fn code_at<'a>(
-    ticks: &'a [u16; 256],
-    settings: &'a [u16; 1024],
-    codes: &'a [u16; 256],
+    ticks: &'a [u16; TICK_CELLS],
+    settings: &'a [u16; SETTING_CELLS],
+    codes: &'a [u16; NEED_CELLS],
     n: usize,
     j: usize,
     start: u16,
@@ -80,9 +83,9 @@ fn code_at<'a>(
 
 // Whether need number `j` of row `n` is unmet at the tick number `k`, if that is before `end` and not before `start`.
 fn unmet_at<'a>(
-    ticks: &'a [u16; 256],
-    settings: &'a [u16; 1024],
-    codes: &'a [u16; 256],
+    ticks: &'a [u16; TICK_CELLS],
+    settings: &'a [u16; SETTING_CELLS],
+    codes: &'a [u16; NEED_CELLS],
     n: usize,
     j: usize,
     start: u16,
@@ -105,7 +108,7 @@ fn unmet_at<'a>(
 }
 
 // At how many ticks need number `j` of row `n` is judged: at none where there is no such need.
-fn judged_ticks(settings: &[u16; 1024], n: usize, j: usize) -> usize
+fn judged_ticks(settings: &[u16; SETTING_CELLS], n: usize, j: usize) -> usize
     requires { ⌜ (n < 64) × (j < 4) ⌝ }
     ensures { λ r. ⌜ r ≡ judged (now (settings .entry)) n j ⌝ }
 {
@@ -117,9 +120,9 @@ fn judged_ticks(settings: &[u16; 1024], n: usize, j: usize) -> usize
 
 // Whether the needs of row `n` are met from `start` to before `end`.
 pub fn own_needs_met<'a>(
-    ticks: &'a [u16; 256],
-    settings: &'a [u16; 1024],
-    codes: &'a [u16; 256],
+    ticks: &'a [u16; TICK_CELLS],
+    settings: &'a [u16; SETTING_CELLS],
+    codes: &'a [u16; NEED_CELLS],
     n: usize,
     start: u16,
     end: u16,

@@ -6,6 +6,7 @@ ghost use lib.ListN.{length};
 ghost use Rattle.placed.specs.Tables.{endAt};
 ghost use Rattle.placed.specs.Bounds.{never, SettingsBounded};
 ghost use Rattle.state.specs.Spoils.{canSpoil, spoilAt, spoiltBy, spoilIn, placedMet, SpoilsRight};
+use crate::rows::NEED_CELLS;
 use crate::rows::end_at;
 use crate::rows::need_code_at;
 use crate::rows::need_variable_at;
@@ -13,6 +14,8 @@ use crate::rows::set_at;
 use crate::rows::start_at;
 use crate::standing::standing_at;
 use placed::NEVER;
+use placed::SETTING_CELLS;
+use placed::TICK_CELLS;
 
 // Whether a set can spoil a need: both are there, and of different values.
 fn can_spoil(set: u16, need: u16) -> bool
@@ -29,8 +32,8 @@ fn can_spoil(set: u16, need: u16) -> bool
 
 // The first tick of effect at which the sets of row `n` spoil need number `j` of row `p`; `NEVER` where they spoil it at none.
 fn spoil_at<'a>(
-    ticks: &'a [u16; 256],
-    settings: &'a [u16; 1024],
+    ticks: &'a [u16; TICK_CELLS],
+    settings: &'a [u16; SETTING_CELLS],
     n: usize,
     p: usize,
     j: usize,
@@ -48,10 +51,10 @@ fn spoil_at<'a>(
 
 // Writes the first tick of effect that spoils each need of the first `n`, four to an activity.
 pub fn fill_spoils<'a>(
-    ticks: &'a [u16; 256],
-    settings: &'a [u16; 1024],
+    ticks: &'a [u16; TICK_CELLS],
+    settings: &'a [u16; SETTING_CELLS],
     n: usize,
-    spoils: &mut [u16; 256],
+    spoils: &mut [u16; NEED_CELLS],
 )
     requires { ⌜ (n < 64) × SettingsBounded (now settings) (n + 1) × (length (now spoils) ≡ 256) ⌝ }
     ensures { λ _. ⌜ SpoilsRight (now (ticks .entry)) (now (settings .entry)) n (now (spoils .exit)) ⌝ }
@@ -62,7 +65,7 @@ pub fn fill_spoils<'a>(
 }
 
 // How many rows matter: one more than the last with a need that can be spoilt.
-pub fn rows_spoilt(spoils: &[u16; 256], n: usize) -> usize
+pub fn rows_spoilt(spoils: &[u16; NEED_CELLS], n: usize) -> usize
     requires { ⌜ n < 64 ⌝ }
     ensures { λ r. ⌜ (r ≤ n) × ((ticks : List ℕ) (e : ℕ) → e < never → placedMet (spoilIn (now (spoils .entry))) ticks n e ≡ placedMet (spoilIn (now (spoils .entry))) ticks r e) ⌝ }
 {
@@ -78,8 +81,8 @@ pub fn rows_spoilt(spoils: &[u16; 256], n: usize) -> usize
 
 // Whether a tick of effect is in the range that spoils need number `j` of row `p`.
 fn spoilt_at<'a>(
-    ticks: &'a [u16; 256],
-    spoils: &'a [u16; 256],
+    ticks: &'a [u16; TICK_CELLS],
+    spoils: &'a [u16; NEED_CELLS],
     p: usize,
     j: usize,
     effect: u16,
@@ -95,8 +98,8 @@ fn spoilt_at<'a>(
 
 // Whether the needs of the first `rows` stay met with the candidate's sets in effect from `effect`.
 pub fn placed_needs_met<'a>(
-    ticks: &'a [u16; 256],
-    spoils: &'a [u16; 256],
+    ticks: &'a [u16; TICK_CELLS],
+    spoils: &'a [u16; NEED_CELLS],
     rows: usize,
     effect: u16,
 ) -> bool
