@@ -1,7 +1,7 @@
 -- The test of S over the tables is condition S of the schedule that their rows say.
 -- Assumes nothing.
 use Prim.Native.Nat.{ℕ, zero, suc, _+_, _≤_, _<_}
-use mathlib.Core.Path.{_≡_, refl, sym, ap, _∙_, subst}
+use mathlib.Core.Path.{_≡_, refl, sym, ap, _∙_}
 use mathlib.Core.Logic.{_⊎_, inl, inr}
 use mathlib.Core.Bool.{Bool, true, false, cond, _&&_, not}
 use mathlib.Core.List.{List, [], _∷_, List·Memᴰ, List·Memᴰ·head, List·Memᴰ·tail}
@@ -23,7 +23,7 @@ use Rattle.rules.proofs.Local.{bool-ext, holds-of, holds-from, holds-till, met-
 use Rattle.placed.specs.Tables.{startAt, endAt, setAt, needVariableAt, needCodeAt}
 use Rattle.placed.specs.Bounds.{never}
 use Rattle.placed.specs.Held.{codeOf, settingAt, TicksAt, SettingsAt, Rows, Reached}
-use Rattle.placed.proofs.Rows.{row-at}
+use Rattle.placed.proofs.Rows.{row-at, row-of}
 use Rattle.state.specs.declared.standing.StandingValue.{StandingValue}
 use Rattle.state.specs.Standing.{laterValue, standingBy}
 use Rattle.state.specs.Own.{changeAt, unmetAt, judged, ownMet}
@@ -32,14 +32,7 @@ use Rattle.state.specs.State.{needsMet, stateMet}
 use Rattle.state.proofs.CodesTable.{judged-none}
 use Rattle.state.proofs.Added.{met-before, spoilOf, spoils-not, spoils-at, held-all, held-at}
 
--- ---- rows and lists by their numbers
--- the row of an entry
-row-of : (P : ℕ → Entry → Type 0) (n : ℕ) (placed : Schedule) → Rows P n placed → (e : Entry) → List·Memᴰ e placed → (i : ℕ) × (i < n) × P i e
-unfolding Rows
-row-of P zero (x ∷ placed) r e m = absurd r
-row-of P (suc n) (x ∷ placed) r e (List·Memᴰ·head q) = (n, omega arith, subst (P n) (sym q) (r .0))
-row-of P (suc n) (x ∷ placed) r e (List·Memᴰ·tail m) = let w = row-of P n placed (r .1) e m in (w .0, omega (arith, w .1), w .2)
-
+-- ---- settings by their numbers
 element-in : (xs : List Setting) (j : ℕ) → j < length xs → List·Memᴰ (settingAt xs j) xs
 element-in [] j h = absurd (not-suc-le-zero h)
 element-in (x ∷ xs) zero h = List·Memᴰ·head refl
