@@ -6,7 +6,7 @@ use mathlib.Core.List.{List}
 use lib.ListN.{length}
 use Rattle.rules.specs.Plan.{Plan}
 use Rattle.rules.specs.Reading.{accepted, no, reading}
-use Rattle.rules.proofs.Ordered.{ordered}
+use Rattle.rules.specs.Ordered.{ordered}
 use Rattle.plan.specs.View.{planView}
 use Rattle.plan.specs.declared.Plan.{Plan as PlanStruct}
 use Rattle.plan.specs.declared.Reading.{Reading as ReadingStruct}
