@@ -9,6 +9,7 @@ use borrow.Author.Tests.{eq-eqb, ne-eqb}
 use lib.ListN.{length}
 use Rattle.rules.specs.Plan.{Plan}
 use Rattle.rules.specs.Order.{order}
+use Rattle.rules.specs.Ordered.{ordered}
 use Rattle.rules.specs.OrderRight.{nthActivity}
 use Rattle.rules.specs.Outcomes.{noActivity}
 use Rattle.rules.specs.Reading.{Reading, accepted, refused, no, reading}
@@ -16,7 +17,7 @@ use Rattle.rules.specs.WellFormed.{ActivityFormed, WellFormed, Reachable}
 use Rattle.rules.proofs.Accepted.{accepted-formed}
 use Rattle.rules.proofs.ListAt.{at-mem}
 use Rattle.rules.proofs.Order.{order-right, order-length}
-use Rattle.rules.proofs.Ordered.{ordered, order-again}
+use Rattle.rules.proofs.Ordered.{order-again}
 use Rattle.activity.specs.View.{headerView}
 use Rattle.plan.specs.View.{PlanSaid, planView}
 use Rattle.plan.specs.Reading.{inOrder, readingView}

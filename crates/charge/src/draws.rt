@@ -1,5 +1,7 @@
 // What is drawn in each tick: by one activity and its heater, and by the placed.
 use activity::Header;
+use placed::AMOUNT_CELLS;
+use placed::TICK_CELLS;
 use placed::heater_from;
 use placed::raise_ticks;
 ghost use mathlib.Core.Path.{_≡_};
@@ -46,7 +48,12 @@ fn draw_between(heat: u16, start: u16, end: u16, draw: u32, heater: u32) -> OwnD
 }
 
 // What the activity of row i draws.
-fn row_draw<'a>(header: Header, ticks: &'a [u16; 256], amounts: &'a [u32; 256], i: usize) -> OwnDraw
+fn row_draw<'a>(
+    header: Header,
+    ticks: &'a [u16; TICK_CELLS],
+    amounts: &'a [u32; AMOUNT_CELLS],
+    i: usize,
+) -> OwnDraw
     requires { ⌜ i < 64 ⌝ }
     ensures { λ r. ⌜ r ≡ rowDraw header (now (ticks .entry)) (now (amounts .entry)) i ⌝ }
 {
@@ -73,8 +80,8 @@ fn add_draw(draws: &mut [u32], own: OwnDraw)
 // Writes the draws of the first n rows in each tick over zeros.
 pub fn add_placed<'a>(
     header: Header,
-    ticks: &'a [u16; 256],
-    amounts: &'a [u32; 256],
+    ticks: &'a [u16; TICK_CELLS],
+    amounts: &'a [u32; AMOUNT_CELLS],
     n: usize,
     draws: &mut [u32],
 )

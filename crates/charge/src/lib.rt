@@ -5,6 +5,8 @@ mod trial;
 
 use activity::Header;
 use draws::add_placed;
+use placed::AMOUNT_CELLS;
+use placed::TICK_CELLS;
 use rules::TICKS;
 use run::run_through;
 use run::step;
@@ -24,8 +26,8 @@ ghost use Rattle.charge.specs.Charge.{drawnIn, chargeBy, keptBy, keptAt}
 // Adds `by` at each of the first `count` starts at which the candidate and the placed keep the charge.
 pub fn mark_charge<'a>(
     header: Header,
-    ticks: &'a [u16; 256],
-    amounts: &'a [u32; 256],
+    ticks: &'a [u16; TICK_CELLS],
+    amounts: &'a [u32; AMOUNT_CELLS],
     n: usize,
     duration: u32,
     warm: u32,
@@ -47,8 +49,8 @@ pub fn mark_charge<'a>(
 // The charge at the horizon with the placed alone; it is at least the floor.
 pub fn last_charge<'a>(
     header: Header,
-    ticks: &'a [u16; 256],
-    amounts: &'a [u32; 256],
+    ticks: &'a [u16; TICK_CELLS],
+    amounts: &'a [u32; AMOUNT_CELLS],
     n: usize,
 ) -> u64
     requires { ⌜ TicksBounded (now ticks) n × AmountsBounded (now amounts) n ⌝ }

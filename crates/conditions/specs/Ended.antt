@@ -5,12 +5,9 @@ use mathlib.Core.List.{List}
 use lib.Dec.{eqb}
 use lib.ListN.{getD}
 use Rattle.placed.specs.Tables.{idAt, endAt}
+use Rattle.placed.specs.Bounds.{never}
 
--- past every start: the end of what is not placed
-abbrev pub never : ℕ
-never = 8192
-
--- the earliest end of the first n rows of this id
+-- the earliest end of the first n rows of this id; what is not placed never ends
 unfoldable pub firstEnd : List ℕ → ℕ → ℕ → ℕ
 firstEnd ticks id zero = never
 firstEnd ticks id (suc n) = min (cond (eqb (idAt ticks n) id) (endAt ticks n) never) (firstEnd ticks id n)

@@ -6,6 +6,10 @@ mod windows;
 
 use activity::Activity;
 use activity::Header;
+use placed::AMOUNT_CELLS;
+use placed::SETTING_CELLS;
+use placed::TICK_CELLS;
+use placed::UNIT_CELLS;
 use rules::CONDITIONS;
 use rules::TICKS;
 use sets::bit;
@@ -33,10 +37,10 @@ fn mark<'a>(
     c: u32,
     header: Header,
     candidate: Activity,
-    ticks: &'a [u16; 256],
-    amounts: &'a [u32; 256],
-    settings: &'a [u16; 1024],
-    units: &'a [u8; 2048],
+    ticks: &'a [u16; TICK_CELLS],
+    amounts: &'a [u32; AMOUNT_CELLS],
+    settings: &'a [u16; SETTING_CELLS],
+    units: &'a [u8; UNIT_CELLS],
     n: usize,
     count: u32,
     table: &mut [u16],
@@ -95,10 +99,10 @@ fn mark<'a>(
 pub fn fill<'a>(
     header: Header,
     candidate: Activity,
-    ticks: &'a [u16; 256],
-    amounts: &'a [u32; 256],
-    settings: &'a [u16; 1024],
-    units: &'a [u8; 2048],
+    ticks: &'a [u16; TICK_CELLS],
+    amounts: &'a [u32; AMOUNT_CELLS],
+    settings: &'a [u16; SETTING_CELLS],
+    units: &'a [u8; UNIT_CELLS],
     n: usize,
     table: &mut [u16; TICKS],
 )

@@ -5,6 +5,7 @@ ghost use Prim.Native.Nat.{_+_, _<_, _≤_};
 ghost use lib.Dec.{leb};
 ghost use Rattle.sets.specs.Table.{Marked, Markable};
 ghost use Rattle.placed.specs.Tables.{volumeAt, volumesIn};
+use placed::AMOUNT_CELLS;
 use placed::total_volume;
 use sets::table::mark_from;
 
@@ -22,7 +23,7 @@ fn first_allowed(placed: u64, volume: u32, limit: u32, count: u32) -> u32
 
 // Marks the starts that meet V.
 pub fn mark_volume(
-    amounts: &[u32; 256],
+    amounts: &[u32; AMOUNT_CELLS],
     n: usize,
     limit: u32,
     count: u32,

@@ -19,6 +19,10 @@ use crate::writing::Cursor;
 use crate::writing::put_byte;
 use crate::writing::put_number;
 use crate::writing::put_word;
+use placed::AMOUNT_CELLS;
+use placed::SETTING_CELLS;
+use placed::TICK_CELLS;
+use placed::UNIT_CELLS;
 use placing::candidate_at;
 use placing::outcome_of;
 use placing::place_next;
@@ -194,10 +198,10 @@ pub fn put_places(out: &mut [u8], c: Cursor, s: &[u8], plan: Plan) -> Cursor
 {
     let mut table = [0u16; TICKS];
     let mut answers = [0u16; PLACES];
-    let mut ticks = [0u16; 256];
-    let mut amounts = [0u32; 256];
-    let mut settings = [0u16; 1024];
-    let mut units = [0u8; 2048];
+    let mut ticks = [0u16; TICK_CELLS];
+    let mut amounts = [0u32; AMOUNT_CELLS];
+    let mut settings = [0u16; SETTING_CELLS];
+    let mut units = [0u8; UNIT_CELLS];
     let count = plan.count;
     let mut at = c;
     let mut n = 0;

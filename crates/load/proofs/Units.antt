@@ -3,25 +3,20 @@
 use Prim.Native.Nat.{ℕ, _<_, _≤_}
 use mathlib.Core.Path.{_≡_, refl, sym, _∙_, ap, subst}
 use mathlib.Core.Bool.{Bool, true, false, cond, _&&_}
-use mathlib.Core.List.{List, _∷_, List·Memᴰ, List·Memᴰ·head, List·Memᴰ·tail}
+use mathlib.Core.List.{List, List·Memᴰ}
 use native.Mathlib.Omega.{arith}
 use lib.Dec.{eqb}
 use lib.ListN.{getD}
 use borrow.Author.Tests.{eq-eqb, eqb-true}
 use Rattle.rules.specs.Plan.{Activity}
 use Rattle.rules.specs.Tests.{ever, anyOf}
-use Rattle.rules.proofs.Tests.{ever-at, ever-found, and-left, and-right, and-both, or-left, or-right}
+use Rattle.rules.proofs.Tests.{ever-at, ever-found, and-left, and-right, and-both}
+use Rattle.rules.proofs.Lists.{any-mem}
 use Rattle.rules.proofs.ListAt.{any-found, at-mem}
 use Rattle.rules.proofs.Local.{bool-ext}
 use Rattle.placed.specs.Tables.{unitAt}
 use Rattle.placed.specs.Held.{UnitsAt}
 use Rattle.load.specs.Loads.{shareUnit}
-
--- an element that passes is one that a test over the list finds
-any-mem : {A : Type 0} (p : A → Bool) (xs : List A) (x : A) → List·Memᴰ x xs → p x ≡ true → anyOf p xs ≡ true
-unfolding anyOf
-any-mem p (y ∷ xs) x (List·Memᴰ·head q) e = or-left _ (ap p (sym q) ∙ e)
-any-mem p (y ∷ xs) x (List·Memᴰ·tail m) e = or-right (p y) (any-mem p xs x m e)
 
 -- a flag says whether the unit is one of the list's
 flag : (units : List ℕ) (i u : ℕ) (a : Activity) → UnitsAt units i a → u < 32 → eqb (unitAt units i u) 1 ≡ anyOf (eqb u) (a .units)

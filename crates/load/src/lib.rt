@@ -3,6 +3,9 @@ mod clear;
 mod loads;
 mod weights;
 
+use placed::AMOUNT_CELLS;
+use placed::TICK_CELLS;
+use placed::UNIT_CELLS;
 use rules::PLACES;
 use rules::TICKS;
 ghost use Prim.Native.Nat.{_+_, _<_, _≤_};
@@ -14,7 +17,7 @@ ghost use Rattle.load.specs.Clear.{clearFor, fits};
 
 // Marks the starts from which the weights of the first n rows and `weight` are within the limit in each tick of the candidate.
 fn mark_load<'a>(
-    ticks: &'a [u16; 256],
+    ticks: &'a [u16; TICK_CELLS],
     weights: &'a [u32; PLACES],
     n: usize,
     duration: u32,
@@ -35,8 +38,8 @@ fn mark_load<'a>(
 
 // Marks the starts that meet U: no tick of the candidate is held by one that shares a unit.
 pub fn mark_units<'a>(
-    ticks: &'a [u16; 256],
-    units: &'a [u8; 2048],
+    ticks: &'a [u16; TICK_CELLS],
+    units: &'a [u8; UNIT_CELLS],
     n: usize,
     duration: u32,
     count: u32,
@@ -54,8 +57,8 @@ pub fn mark_units<'a>(
 
 // Marks the starts from which column c of the amounts is within the limit in each tick of the candidate.
 fn mark_amounts<'a>(
-    ticks: &'a [u16; 256],
-    amounts: &'a [u32; 256],
+    ticks: &'a [u16; TICK_CELLS],
+    amounts: &'a [u32; AMOUNT_CELLS],
     c: usize,
     n: usize,
     duration: u32,
@@ -76,8 +79,8 @@ fn mark_amounts<'a>(
 
 // Marks the starts that meet E.
 pub fn mark_engines<'a>(
-    ticks: &'a [u16; 256],
-    amounts: &'a [u32; 256],
+    ticks: &'a [u16; TICK_CELLS],
+    amounts: &'a [u32; AMOUNT_CELLS],
     n: usize,
     duration: u32,
     limit: u32,
@@ -94,8 +97,8 @@ pub fn mark_engines<'a>(
 
 // Marks the starts that meet P.
 pub fn mark_peaks<'a>(
-    ticks: &'a [u16; 256],
-    amounts: &'a [u32; 256],
+    ticks: &'a [u16; TICK_CELLS],
+    amounts: &'a [u32; AMOUNT_CELLS],
     n: usize,
     duration: u32,
     limit: u32,

@@ -1,4 +1,5 @@
 // The load of the placed in each tick.
+use placed::TICK_CELLS;
 use placed::raise_ticks;
 use rules::PLACES;
 ghost use mathlib.Core.Path.{_≡_};
@@ -9,7 +10,7 @@ ghost use Rattle.load.specs.Loads.{numberAt, WeightsBounded, Loaded};
 
 // Sets the load of each tick, from 0, to the sum of the weights of the first n rows that hold it.
 pub fn fill_loads<'a>(
-    ticks: &'a [u16; 256],
+    ticks: &'a [u16; TICK_CELLS],
     weights: &'a [u32; PLACES],
     n: usize,
     loads: &mut [u32],

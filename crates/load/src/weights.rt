@@ -5,10 +5,12 @@ ghost use Prim.Native.Nat.{_<_, _≤_};
 ghost use lib.Dec.{eqb};
 ghost use lib.ListN.{length};
 ghost use Rattle.load.specs.Loads.{amountAt, shareUnit, sharing, Weighed};
+use placed::AMOUNT_CELLS;
+use placed::UNIT_CELLS;
 use rules::PLACES;
 
 // Copies column c of the amounts of the first n rows.
-pub fn copy_amounts(amounts: &[u32; 256], c: usize, n: usize, weights: &mut [u32; PLACES])
+pub fn copy_amounts(amounts: &[u32; AMOUNT_CELLS], c: usize, n: usize, weights: &mut [u32; PLACES])
     requires { ⌜ (c < 2) × (n ≤ 64) × (length (now weights) ≡ 64) ⌝ }
     ensures { λ _. ⌜ Weighed (amountAt (now (amounts .entry)) c) n (now (weights .exit)) ⌝ }
 {
@@ -25,7 +27,7 @@ fn both(x: u8, y: u8) -> bool
 }
 
 // Whether rows i and j have a unit in common.
-fn share_unit(units: &[u8; 2048], i: usize, j: usize) -> bool
+fn share_unit(units: &[u8; UNIT_CELLS], i: usize, j: usize) -> bool
     requires { ⌜ (i < 64) × (j < 64) ⌝ }
     ensures { λ r. ⌜ r ≡ shareUnit (now (units .entry)) i j ⌝ }
 {
@@ -38,7 +40,7 @@ fn share_unit(units: &[u8; 2048], i: usize, j: usize) -> bool
 }
 
 // Weighs the first n rows by whether they share a unit with row n.
-pub fn weigh_sharing(units: &[u8; 2048], n: usize, weights: &mut [u32; PLACES])
+pub fn weigh_sharing(units: &[u8; UNIT_CELLS], n: usize, weights: &mut [u32; PLACES])
     requires { ⌜ (n < 64) × (length (now weights) ≡ 64) ⌝ }
     ensures { λ _. ⌜ Weighed (sharing (now (units .entry)) n) n (now (weights .exit)) ⌝ }
 {

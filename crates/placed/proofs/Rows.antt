@@ -1,7 +1,7 @@
 -- What is known of the rows of the tables, by place and by entry.
 -- Assumes nothing.
 use Prim.Native.Nat.{ℕ, zero, suc, _+_, _<_}
-use mathlib.Core.Path.{_≡_, refl, ap}
+use mathlib.Core.Path.{_≡_, refl, sym, ap, subst}
 use mathlib.Core.List.{List, [], _∷_, List·Memᴰ, List·Memᴰ·head, List·Memᴰ·tail}
 use native.Mathlib.Omega.{arith}
 use native.Mathlib.Nat.{not-suc-le-zero}
@@ -33,6 +33,13 @@ row-at P zero [] r i k = absurd (not-suc-le-zero k)
 row-at P (suc n) (e ∷ placed) r i k =
     last-or (λ j. (d : Entry) × List·Memᴰ d (e ∷ placed) × P j d) n i k (e, List·Memᴰ·head refl, r .0)
     (λ l. let d = row-at P n placed (r .1) i l in (d .0, List·Memᴰ·tail (d .1), d .2))
+
+-- the row of an entry
+pub row-of : (P : ℕ → Entry → Type 0) (n : ℕ) (placed : Schedule) → Rows P n placed → (e : Entry) → List·Memᴰ e placed → (i : ℕ) × (i < n) × P i e
+unfolding Rows
+row-of P zero (x ∷ placed) r e m = absurd r
+row-of P (suc n) (x ∷ placed) r e (List·Memᴰ·head q) = (n, omega arith, subst (P n) (sym q) (r .0))
+row-of P (suc n) (x ∷ placed) r e (List·Memᴰ·tail m) = let w = row-of P n placed (r .1) e m in (w .0, omega (arith, w .1), w .2)
 
 -- one row more
 pub rows-more : (P : ℕ → Entry → Type 0) (n : ℕ) (e : Entry) (placed : Schedule) → P n e → Rows P n placed → Rows P (n + 1) (e ∷ placed)

@@ -3,6 +3,10 @@ use Prim.Native.Nat.{ℕ, _<_, _≤_}
 use mathlib.Core.List.{List}
 use Rattle.placed.specs.Tables.{heatAt, startAt, endAt, enginesAt, peakAt, drawAt, needVariableAt, needCodeAt}
 
+-- a tick past every end
+abbrev pub never : ℕ
+never = 4097
+
 -- the first n rows end by tick 4,096
 pub record TicksBounded (ticks : List ℕ) (n : ℕ) : Type 0 where
   pub few : n ≤ 64

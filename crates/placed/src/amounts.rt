@@ -2,6 +2,7 @@
 ghost use mathlib.Core.Path.{_≡_};
 ghost use Prim.Native.Nat.{_<_, _≤_};
 ghost use Rattle.placed.specs.Tables.{volumesIn};
+use crate::AMOUNT_CELLS;
 
 // The same number in 64 bits.
 pub fn wide(x: u32) -> u64
@@ -11,7 +12,7 @@ pub fn wide(x: u32) -> u64
 }
 
 // The volumes of the first n rows, summed.
-pub fn total_volume(amounts: &[u32; 256], n: usize) -> u64
+pub fn total_volume(amounts: &[u32; AMOUNT_CELLS], n: usize) -> u64
     requires { ⌜ n ≤ 64 ⌝ }
     ensures { λ r. ⌜ (r ≡ volumesIn (now (amounts .entry)) n) × (r ≤ 274877906944) ⌝ }
 {

@@ -10,6 +10,18 @@ mod settings;
 mod ticks;
 mod units;
 
+// How many numbers each table has: a row for each place, of 4, 4, 16 and 32.
+pub const TICK_CELLS: usize = 256;
+
+pub const AMOUNT_CELLS: usize = 256;
+
+pub const SETTING_CELLS: usize = 1024;
+
+pub const UNIT_CELLS: usize = 2048;
+
+// A tick past every end.
+pub const NEVER: u16 = 4097;
+
 pub use amounts::total_volume;
 pub use amounts::wide;
 pub use row::put_candidate;

@@ -6,6 +6,9 @@ ghost use Rattle.rules.specs.WellFormed.{SettingsFormed};
 ghost use Rattle.activity.specs.View.{Sized, activityView};
 ghost use Rattle.placed.specs.Held.{AmountsAt, SettingsAt, CandidateAt};
 ghost use Rattle.placed.specs.Written.{SameBelow};
+use crate::AMOUNT_CELLS;
+use crate::SETTING_CELLS;
+use crate::UNIT_CELLS;
 use crate::settings::put_sets;
 use crate::settings::put_values;
 use crate::settings::put_variables;
@@ -13,7 +16,7 @@ use crate::units::put_units;
 use activity::Activity;
 
 // Writes row n of the settings: the sets and needs of an activity.
-fn put_settings(activity: Activity, n: usize, settings: &mut [u16; 1024])
+fn put_settings(activity: Activity, n: usize, settings: &mut [u16; SETTING_CELLS])
     requires { ⌜ (n < 64) × Sized activity × (length (now settings) ≡ 1024) ⌝ }
     requires { ⌜ SettingsFormed (activityView activity .needs) × SettingsFormed (activityView activity .sets) ⌝ }
     ensures { λ _. ⌜ (length (now (settings .exit)) ≡ 1024) × SameBelow (n * 16) (now (settings .entry)) (now (settings .exit)) × SettingsAt (now (settings .exit)) n (activityView activity) ⌝ }
@@ -35,7 +38,7 @@ fn put_settings(activity: Activity, n: usize, settings: &mut [u16; 1024])
 }
 
 // Writes row n of the amounts.
-fn put_amounts(activity: Activity, n: usize, amounts: &mut [u32; 256])
+fn put_amounts(activity: Activity, n: usize, amounts: &mut [u32; AMOUNT_CELLS])
     requires { ⌜ (n < 64) × (length (now amounts) ≡ 256) ⌝ }
     ensures { λ _. ⌜ (length (now (amounts .exit)) ≡ 256) × SameBelow (n * 4) (now (amounts .entry)) (now (amounts .exit)) × AmountsAt (now (amounts .exit)) n (activityView activity) ⌝ }
 {
@@ -50,9 +53,9 @@ fn put_amounts(activity: Activity, n: usize, amounts: &mut [u32; 256])
 pub fn put_candidate(
     activity: Activity,
     n: usize,
-    amounts: &mut [u32; 256],
-    settings: &mut [u16; 1024],
-    units: &mut [u8; 2048],
+    amounts: &mut [u32; AMOUNT_CELLS],
+    settings: &mut [u16; SETTING_CELLS],
+    units: &mut [u8; UNIT_CELLS],
 )
     requires { ⌜ (n < 64) × Sized activity × SettingsFormed (activityView activity .needs) × SettingsFormed (activityView activity .sets) ⌝ }
     requires { ⌜ (length (now amounts) ≡ 256) × (length (now settings) ≡ 1024) × (length (now units) ≡ 2048) ⌝ }

@@ -8,6 +8,7 @@ ghost use Rattle.activity.specs.View.{headerView, activityView};
 ghost use Rattle.placed.specs.Held.{TicksAt};
 ghost use Rattle.placed.specs.Raised.{Raised};
 ghost use Rattle.placed.specs.Written.{SameBelow};
+use crate::TICK_CELLS;
 use activity::Activity;
 use activity::Header;
 
@@ -20,7 +21,13 @@ pub fn heater_from(minute: u32, start: u32, warm: u32) -> u32
 }
 
 // Writes the ticks of row n: the activity at this start.
-pub fn put_start(header: Header, activity: Activity, start: u32, n: usize, ticks: &mut [u16; 256])
+pub fn put_start(
+    header: Header,
+    activity: Activity,
+    start: u32,
+    n: usize,
+    ticks: &mut [u16; TICK_CELLS],
+)
     requires { ⌜ (n < 64) × (activity .id ≤ 65535) × (start + activity .duration ≤ 4096) × (length (now ticks) ≡ 256) ⌝ }
     ensures { λ _. ⌜ (length (now (ticks .exit)) ≡ 256) × SameBelow (n * 4) (now (ticks .entry)) (now (ticks .exit)) ⌝ }
     ensures { λ _. ⌜ TicksAt (headerView header) (now (ticks .exit)) n (at (activityView activity) start) ⌝ }

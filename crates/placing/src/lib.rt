@@ -6,6 +6,10 @@ mod next;
 pub use answers::outcome_of;
 pub use next::candidate_at;
 pub use next::place_next;
+use placed::AMOUNT_CELLS;
+use placed::SETTING_CELLS;
+use placed::TICK_CELLS;
+use placed::UNIT_CELLS;
 use plan::Plan;
 use rules::Outcome;
 use rules::PLACES;
@@ -25,10 +29,10 @@ pub fn place_to(
     k: usize,
     table: &mut [u16; TICKS],
     answers: &mut [u16; PLACES],
-    ticks: &mut [u16; 256],
-    amounts: &mut [u32; 256],
-    settings: &mut [u16; 1024],
-    units: &mut [u8; 2048],
+    ticks: &mut [u16; TICK_CELLS],
+    amounts: &mut [u32; AMOUNT_CELLS],
+    settings: &mut [u16; SETTING_CELLS],
+    units: &mut [u8; UNIT_CELLS],
 ) -> usize
     requires { ⌜ Placeable (now s) plan × (k ≤ plan .count) × (length (now answers) ≡ 64) × Sized (now ticks) (now amounts) (now settings) (now units) ⌝ }
     ensures { λ r. ⌜ PlacedTo (now (s .entry)) plan k r (now (ticks .exit)) (now (amounts .exit)) (now (settings .exit)) (now (units .exit)) ⌝ }
@@ -61,10 +65,10 @@ pub fn outcome_at(s: &[u8], plan: Plan, k: usize) -> Outcome
 {
     let mut table = [0u16; TICKS];
     let mut answers = [0u16; PLACES];
-    let mut ticks = [0u16; 256];
-    let mut amounts = [0u32; 256];
-    let mut settings = [0u16; 1024];
-    let mut units = [0u8; 2048];
+    let mut ticks = [0u16; TICK_CELLS];
+    let mut amounts = [0u32; AMOUNT_CELLS];
+    let mut settings = [0u16; SETTING_CELLS];
+    let mut units = [0u8; UNIT_CELLS];
     place_to(
         s,
         plan,
@@ -96,10 +100,10 @@ pub fn fill_at(s: &[u8], plan: Plan, k: usize, table: &mut [u16; TICKS]) -> u32
     ensures { λ _. ⌜ TableAt (now (s .entry)) plan k (now (table .exit)) ⌝ }
 {
     let mut answers = [0u16; PLACES];
-    let mut ticks = [0u16; 256];
-    let mut amounts = [0u32; 256];
-    let mut settings = [0u16; 1024];
-    let mut units = [0u8; 2048];
+    let mut ticks = [0u16; TICK_CELLS];
+    let mut amounts = [0u32; AMOUNT_CELLS];
+    let mut settings = [0u16; SETTING_CELLS];
+    let mut units = [0u8; UNIT_CELLS];
     let n = place_to(
         s,
         plan,

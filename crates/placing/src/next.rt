@@ -2,6 +2,10 @@
 use crate::answers::answer_of;
 use activity::Activity;
 use activity::Header;
+use placed::AMOUNT_CELLS;
+use placed::SETTING_CELLS;
+use placed::TICK_CELLS;
+use placed::UNIT_CELLS;
 use placed::put_candidate;
 use placed::put_start;
 use plan::Plan;
@@ -38,10 +42,10 @@ pub fn candidate_at(s: &[u8], plan: Plan, k: usize) -> Activity
 fn reply_to<'a>(
     header: Header,
     candidate: Activity,
-    ticks: &'a [u16; 256],
-    amounts: &'a [u32; 256],
-    settings: &'a [u16; 1024],
-    units: &'a [u8; 2048],
+    ticks: &'a [u16; TICK_CELLS],
+    amounts: &'a [u32; AMOUNT_CELLS],
+    settings: &'a [u16; SETTING_CELLS],
+    units: &'a [u8; UNIT_CELLS],
     n: usize,
     table: &mut [u16; TICKS],
 ) -> Outcome
@@ -60,7 +64,7 @@ fn put_if_placed(
     candidate: Activity,
     outcome: Outcome,
     n: usize,
-    ticks: &mut [u16; 256],
+    ticks: &mut [u16; TICK_CELLS],
 ) -> usize
     requires { ⌜ (n < 64) × (candidate .id ≤ 65535) × ((s : ℕ) → outcome ≡ Placed s → s + candidate .duration ≤ 4096) × (length (now ticks) ≡ 256) ⌝ }
     ensures { λ r. ⌜ (r ≤ n + 1) × (length (now (ticks .exit)) ≡ 256) ⌝ }
@@ -81,10 +85,10 @@ pub fn place_next(
     n: usize,
     table: &mut [u16; TICKS],
     answers: &mut [u16; PLACES],
-    ticks: &mut [u16; 256],
-    amounts: &mut [u32; 256],
-    settings: &mut [u16; 1024],
-    units: &mut [u8; 2048],
+    ticks: &mut [u16; TICK_CELLS],
+    amounts: &mut [u32; AMOUNT_CELLS],
+    settings: &mut [u16; SETTING_CELLS],
+    units: &mut [u8; UNIT_CELLS],
 ) -> usize
     requires { ⌜ Placeable (now s) plan × (k < plan .count) × Sized (now ticks) (now amounts) (now settings) (now units) ⌝ }
     requires { ⌜ PlacedTo (now s) plan k n (now ticks) (now amounts) (now settings) (now units) × AnsweredTo (now s) plan k (now answers) ⌝ }

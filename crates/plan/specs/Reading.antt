@@ -3,14 +3,14 @@ use Prim.Native.Nat.{ℕ}
 use mathlib.Core.Bool.{cond}
 use mathlib.Core.List.{List}
 use lib.Dec.{eqb}
-use Rattle.rules.specs.Order.{order}
+use Rattle.rules.specs.Ordered.{ordered}
 use Rattle.rules.specs.Reading.{Reading, accepted, refused, no}
 use Rattle.plan.specs.View.{planView}
 use Rattle.plan.specs.declared.Reading.{Reading as ReadingStruct}
 
 -- a plan with its activities in the scheduling order
 unfoldable pub inOrder : Reading → Reading
-inOrder (accepted p) = accepted (record { header = p .header; activities = order (p .activities) })
+inOrder (accepted p) = accepted (ordered p)
 inOrder (refused r) = refused r
 
 -- what the struct says of the bytes s: their plan, or their refusal

@@ -9,6 +9,10 @@ ghost use Rattle.placing.specs.Places.{Placeable, AnsweredTo};
 ghost use Rattle.report.specs.Lines.{Wrote, lineMost, endMost, reportMost};
 ghost use Rattle.report.specs.Finished.{RowsSay, Finished};
 use activity::Header;
+use placed::AMOUNT_CELLS;
+use placed::SETTING_CELLS;
+use placed::TICK_CELLS;
+use placed::UNIT_CELLS;
 use placed::total_volume;
 use placing::candidate_at;
 use placing::outcome_of;
@@ -41,8 +45,8 @@ fn put_lines(s: &[u8], plan: Plan, answers: &[u16; PLACES], out: &mut [u8]) -> u
 fn put_finished<'a>(
     header: Header,
     count: usize,
-    ticks: &'a [u16; 256],
-    amounts: &'a [u32; 256],
+    ticks: &'a [u16; TICK_CELLS],
+    amounts: &'a [u32; AMOUNT_CELLS],
     n: usize,
     out: &mut [u8],
     at: usize,
@@ -64,10 +68,10 @@ pub fn put_report(s: &[u8], plan: Plan, out: &mut [u8; REPORT]) -> usize
 {
     let mut table = [0u16; TICKS];
     let mut answers = [0u16; PLACES];
-    let mut ticks = [0u16; 256];
-    let mut amounts = [0u32; 256];
-    let mut settings = [0u16; 1024];
-    let mut units = [0u8; 2048];
+    let mut ticks = [0u16; TICK_CELLS];
+    let mut amounts = [0u32; AMOUNT_CELLS];
+    let mut settings = [0u16; SETTING_CELLS];
+    let mut units = [0u8; UNIT_CELLS];
     let count = plan.count;
     let n = place_to(
         s,

@@ -1,15 +1,17 @@
--- Tests over the first n elements of a list, by their places.
+-- Tests over the first n numbers, and over the elements of a list.
 -- Assumes nothing.
-use Prim.Native.Nat.{ℕ, zero, suc, _+_, _<_}
-use mathlib.Core.Path.{_≡_, refl, _∙_, ap}
+use Prim.Native.Nat.{ℕ, zero, suc, _+_, _<_, _≤_}
+use mathlib.Core.Path.{_≡_, refl, sym, _∙_, ap}
 use mathlib.Core.Bool.{Bool, true, false, _&&_}
-use mathlib.Core.List.{List, [], _∷_}
+use mathlib.Core.List.{List, [], _∷_, List·Memᴰ, List·Memᴰ·head, List·Memᴰ·tail}
+use native.Mathlib.Decide.{decLe}
 use native.Mathlib.Omega.{arith}
 use native.Mathlib.Numerals.{add-one}
 use native.Mathlib.Nat.{not-suc-le-zero}
 use lib.ListN.{length, getD, take, replicate}
 use Rattle.rules.specs.Tests.{each, anyOf, every}
-use Rattle.rules.proofs.Tests.{and-both, both-ways, each-at, or-left, or-right}
+use Rattle.rules.proofs.Tests.{and-both, both-ways, each-at, each-all, or-left, or-right}
+use Rattle.rules.proofs.Local.{bool-ext}
 
 -- zeros
 pub zeros : (n k : ℕ) → _≡_ {A = ℕ} (getD (replicate n 0) k 0) 0
@@ -34,6 +36,22 @@ each-fails p n k l f = go (each p n) refl
     go : (b : Bool) → each p n ≡ b → b ≡ false
     go true e = absurd (both-ways (each-at p n k e l) f)
     go false e = refl
+
+-- a test of the first r numbers is one of all n, where it holds from r on
+pub each-front : (p : ℕ → Bool) (n r : ℕ) → r ≤ n → ((i : ℕ) → r ≤ i → i < n → p i ≡ true) → each p n ≡ each p r
+each-front p n r l f =
+    bool-ext _ _ (λ q. each-all p r (λ i k. each-at p n i q (omega arith)))
+    (λ q. each-all p n (λ i k. go q i k (decLe r i)))
+  where
+    go : each p r ≡ true → (i : ℕ) → i < n → Dec (r ≤ i) → p i ≡ true
+    go q i k (yes h) = f i h k
+    go q i k (no h) = each-at p r i q (omega arith)
+
+-- an element that passes is one that a test over the list finds
+pub any-mem : {A : Type 0} (p : A → Bool) (xs : List A) (x : A) → List·Memᴰ x xs → p x ≡ true → anyOf p xs ≡ true
+unfolding anyOf
+any-mem p (y ∷ xs) x (List·Memᴰ·head q) e = or-left _ (ap p (sym q) ∙ e)
+any-mem p (y ∷ xs) x (List·Memᴰ·tail m) e = or-right (p y) (any-mem p xs x m e)
 
 module _ {A : Type 0} (p : A → Bool) (d : A) where
   -- an element among the first n passes

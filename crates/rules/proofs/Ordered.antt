@@ -8,6 +8,7 @@ use lib.ListN.{length, getD}
 use borrow.Author.Tests.{le-leb}
 use Rattle.rules.specs.Plan.{Activity, Plan}
 use Rattle.rules.specs.Order.{insertByPriority, order}
+use Rattle.rules.specs.Ordered.{ordered}
 use Rattle.rules.specs.OrderRight.{nthActivity}
 use Rattle.rules.specs.Outcomes.{noActivity, activityAt, placed, outcome, finished}
 use Rattle.rules.specs.Report.{outcomeLines, endLine, report}
@@ -32,10 +33,6 @@ rising-order (a ∷ ys) r =
 
 pub order-again : (xs : List Activity) → order (order xs) ≡ order xs
 order-again xs = rising-order (order xs) (order-right xs .rising)
-
--- the plan with its activities in the scheduling order
-abbrev pub ordered : Plan → Plan
-ordered p = record { header = p .header; activities = order (p .activities) }
 
 module _ (p : Plan) where
   same-activity : (k : ℕ) → activityAt (ordered p) k ≡ activityAt p k

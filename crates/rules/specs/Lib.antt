@@ -38,5 +38,7 @@ pub mod Acceptance
 pub mod Forms
 pub mod Faults
 pub mod Determined
+-- The plan as the code holds it.
+pub mod Ordered
 -- For proofs alone.
 pub mod Open

@@ -16,7 +16,7 @@ use Rattle.rules.specs.Hold.{holds}
 use Rattle.rules.specs.MeetsS.{Standing, given, over, standing, met}
 use Rattle.rules.proofs.Tests.{each-at, each-all}
 use Rattle.rules.proofs.Local.{holds-of, holds-from, holds-till}
-use Rattle.state.specs.Spoils.{never}
+use Rattle.placed.specs.Bounds.{never}
 
 -- ---- the tick from which a value stands
 over-since : (e : Entry) (k t : ℕ) (b : Standing) → over e (some k) t b .since ≡ cond (leb (end e) t) (max (end e) (b .since)) (b .since)

@@ -1,4 +1,5 @@
 pub mod Loops
+pub mod CodesTable
 pub mod SpoilsTable
 pub mod Added
 pub mod StateMeets

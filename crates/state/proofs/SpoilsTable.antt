@@ -2,30 +2,19 @@
 -- Assumes nothing.
 use Prim.Native.Nat.{ℕ, _+_, _-_, _*_, _/_, _%_, _≤_, _<_}
 use mathlib.Core.Path.{_≡_, refl, sym, ap, _∙_, subst}
-use mathlib.Core.Bool.{Bool, true, _&&_, not}
+use mathlib.Core.Bool.{Bool, _&&_, not}
 use mathlib.Core.List.{List}
 use native.Mathlib.Decide.{decLe}
 use native.Mathlib.Omega.{arith}
 use lib.ListN.{getD}
 use borrow.Author.Tests.{lt-leb}
-use Rattle.rules.specs.Tests.{each}
-use Rattle.rules.proofs.Tests.{each-at, each-all}
-use Rattle.rules.proofs.Lists.{each-same}
-use Rattle.rules.proofs.Local.{bool-ext}
+use Rattle.rules.proofs.Tests.{each-all}
+use Rattle.rules.proofs.Lists.{each-same, each-front}
 use Rattle.placed.specs.Tables.{endAt}
+use Rattle.placed.specs.Bounds.{never}
 use Rattle.state.specs.Own.{ownMet}
-use Rattle.state.specs.Spoils.{never, spoilAt, spoiltBy, spoilIn, placedMet, SpoilsRight}
+use Rattle.state.specs.Spoils.{spoilAt, spoiltBy, spoilIn, placedMet, SpoilsRight}
 use Rattle.state.specs.State.{needsMet, stateMet}
-
--- a test of the first r numbers is one of all n, where it holds from r on
-each-front : (p : ℕ → Bool) (n r : ℕ) → r ≤ n → ((i : ℕ) → r ≤ i → i < n → p i ≡ true) → each p n ≡ each p r
-each-front p n r l f =
-    bool-ext _ _ (λ q. each-all p r (λ i k. each-at p n i q (omega arith)))
-    (λ q. each-all p n (λ i k. go q i k (decLe r i)))
-  where
-    go : each p r ≡ true → (i : ℕ) → i < n → Dec (r ≤ i) → p i ≡ true
-    go q i k (yes h) = f i h k
-    go q i k (no h) = each-at p r i q (omega arith)
 
 -- from k - 1 on is k - 1, or from k on
 pub last-from : (P : ℕ → Type 0) (k i : ℕ) → k - 1 ≤ i → P (k - 1) → (k ≤ i → P i) → P i

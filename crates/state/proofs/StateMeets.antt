@@ -1,7 +1,7 @@
 -- The test of S over the tables is condition S of the schedule that their rows say.
 -- Assumes nothing.
 use Prim.Native.Nat.{ℕ, zero, suc, _+_, _≤_, _<_}
-use mathlib.Core.Path.{_≡_, refl, sym, ap, _∙_, subst}
+use mathlib.Core.Path.{_≡_, refl, sym, ap, _∙_}
 use mathlib.Core.Logic.{_⊎_, inl, inr}
 use mathlib.Core.Bool.{Bool, true, false, cond, _&&_, not}
 use mathlib.Core.List.{List, [], _∷_, List·Memᴰ, List·Memᴰ·head, List·Memᴰ·tail}
@@ -21,23 +21,18 @@ use Rattle.rules.proofs.Tests.{each-at, each-all, every-mem, and-left, and-righ
 use Rattle.rules.proofs.Every.{every-all}
 use Rattle.rules.proofs.Local.{bool-ext, holds-of, holds-from, holds-till, met-by-edges}
 use Rattle.placed.specs.Tables.{startAt, endAt, setAt, needVariableAt, needCodeAt}
+use Rattle.placed.specs.Bounds.{never}
 use Rattle.placed.specs.Held.{codeOf, settingAt, TicksAt, SettingsAt, Rows, Reached}
-use Rattle.placed.proofs.Rows.{row-at}
+use Rattle.placed.proofs.Rows.{row-at, row-of}
 use Rattle.state.specs.declared.standing.StandingValue.{StandingValue}
 use Rattle.state.specs.Standing.{laterValue, standingBy}
 use Rattle.state.specs.Own.{changeAt, unmetAt, judged, ownMet}
-use Rattle.state.specs.Spoils.{never, canSpoil, spoilAt, spoiltBy, placedMet}
+use Rattle.state.specs.Spoils.{canSpoil, spoilAt, spoiltBy, placedMet}
 use Rattle.state.specs.State.{needsMet, stateMet}
+use Rattle.state.proofs.CodesTable.{judged-none}
 use Rattle.state.proofs.Added.{met-before, spoilOf, spoils-not, spoils-at, held-all, held-at}
 
--- ---- rows and lists by their numbers
--- the row of an entry
-row-of : (P : ℕ → Entry → Type 0) (n : ℕ) (placed : Schedule) → Rows P n placed → (e : Entry) → List·Memᴰ e placed → (i : ℕ) × (i < n) × P i e
-unfolding Rows
-row-of P zero (x ∷ placed) r e m = absurd r
-row-of P (suc n) (x ∷ placed) r e (List·Memᴰ·head q) = (n, omega arith, subst (P n) (sym q) (r .0))
-row-of P (suc n) (x ∷ placed) r e (List·Memᴰ·tail m) = let w = row-of P n placed (r .1) e m in (w .0, omega (arith, w .1), w .2)
-
+-- ---- settings by their numbers
 element-in : (xs : List Setting) (j : ℕ) → j < length xs → List·Memᴰ (settingAt xs j) xs
 element-in [] j h = absurd (not-suc-le-zero h)
 element-in (x ∷ xs) zero h = List·Memᴰ·head refl
@@ -164,10 +159,6 @@ module _ (h : Header) (ticks settings : List ℕ) (n : ℕ) (placed : Schedule) 
       unfolding judged
       judged-is = rw (code-is settings n a S (F .needs) j l, eqb·suc-zero) refl
 
-    judged-none : (j : ℕ) → j < 4 → length (a .needs) ≤ j → judged settings n j ≡ 0
-    unfolding judged
-    judged-none j l k = rw (code-none settings n a S (F .needs) j l k) refl
-
     abbrev holdsAll : Entry → Setting → Bool
     holdsAll e m = each (λ i. met (c ∷ placed) (e .start + i) m) (e .activity .duration)
 
@@ -192,7 +183,7 @@ module _ (h : Header) (ticks settings : List ℕ) (n : ℕ) (placed : Schedule) 
             own-none j g
             (λ t r. sym (met-before placed c t (need j g) (holds-till t c r)) ∙ held-at (c ∷ placed) c (need j g) (every-mem (holdsAll c) (a .needs) q (element-in (a .needs) j g)) t r)
             k
-        go j l k m (no g) = absurd (omega (arith, judged-none j l (omega arith)))
+        go j l k m (no g) = absurd (omega (arith, judged-none settings n j (code-none settings n a S (F .needs) j l (omega arith))))
 
     -- ---- the needs of the placed
     abbrev spoilt : ℕ → ℕ → Bool

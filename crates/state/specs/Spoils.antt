@@ -7,11 +7,8 @@ use lib.Dec.{leb, ltb, eqb}
 use lib.ListN.{getD}
 use Rattle.rules.specs.Tests.{each}
 use Rattle.placed.specs.Tables.{startAt, endAt, setAt, needVariableAt, needCodeAt}
+use Rattle.placed.specs.Bounds.{never}
 use Rattle.state.specs.Standing.{standingBy}
-
--- a tick after every end
-abbrev pub never : ℕ
-never = 4097
 
 -- a set can spoil a need: both are there, and of different values
 unfoldable pub canSpoil : ℕ → ℕ → Bool

@@ -2,9 +2,14 @@
 ghost use mathlib.Core.Path.{_≡_};
 ghost use Prim.Native.Nat.{_<_};
 ghost use Rattle.placed.specs.Tables.{startAt, endAt, setAt, needVariableAt, needCodeAt};
+use placed::SETTING_CELLS;
+use placed::TICK_CELLS;
+
+// How many needs the rows have, four to a row.
+pub const NEED_CELLS: usize = 256;
 
 // The start of a placed activity.
-pub fn start_at(ticks: &[u16; 256], i: usize) -> u16
+pub fn start_at(ticks: &[u16; TICK_CELLS], i: usize) -> u16
     requires { ⌜ i < 64 ⌝ }
     ensures { λ r. ⌜ r ≡ startAt (now (ticks .entry)) i ⌝ }
 {
@@ -12,7 +17,7 @@ pub fn start_at(ticks: &[u16; 256], i: usize) -> u16
 }
 
 // The end of a placed activity.
-pub fn end_at(ticks: &[u16; 256], i: usize) -> u16
+pub fn end_at(ticks: &[u16; TICK_CELLS], i: usize) -> u16
     requires { ⌜ i < 64 ⌝ }
     ensures { λ r. ⌜ r ≡ endAt (now (ticks .entry)) i ⌝ }
 {
@@ -20,7 +25,7 @@ pub fn end_at(ticks: &[u16; 256], i: usize) -> u16
 }
 
 // The code of what an activity sets a variable to.
-pub fn set_at(settings: &[u16; 1024], i: usize, variable: u16) -> u16
+pub fn set_at(settings: &[u16; SETTING_CELLS], i: usize, variable: u16) -> u16
     requires { ⌜ (i < 64) × (variable < 8) ⌝ }
     ensures { λ r. ⌜ r ≡ setAt (now (settings .entry)) i variable ⌝ }
 {
@@ -28,7 +33,7 @@ pub fn set_at(settings: &[u16; 1024], i: usize, variable: u16) -> u16
 }
 
 // The variable of an activity's need number j.
-pub fn need_variable_at(settings: &[u16; 1024], i: usize, j: usize) -> u16
+pub fn need_variable_at(settings: &[u16; SETTING_CELLS], i: usize, j: usize) -> u16
     requires { ⌜ (i < 64) × (j < 4) ⌝ }
     ensures { λ r. ⌜ r ≡ needVariableAt (now (settings .entry)) i j ⌝ }
 {
@@ -36,7 +41,7 @@ pub fn need_variable_at(settings: &[u16; 1024], i: usize, j: usize) -> u16
 }
 
 // The code of an activity's need number j.
-pub fn need_code_at(settings: &[u16; 1024], i: usize, j: usize) -> u16
+pub fn need_code_at(settings: &[u16; SETTING_CELLS], i: usize, j: usize) -> u16
     requires { ⌜ (i < 64) × (j < 4) ⌝ }
     ensures { λ r. ⌜ r ≡ needCodeAt (now (settings .entry)) i j ⌝ }
 {

@@ -4,14 +4,18 @@ ghost use mathlib.Core.List.{List};
 ghost use Prim.Native.Nat.{ℕ, _+_, _<_, _≤_};
 ghost use lib.ListN.{length};
 ghost use Rattle.placed.specs.Tables.{endAt};
-ghost use Rattle.placed.specs.Bounds.{SettingsBounded};
-ghost use Rattle.state.specs.Spoils.{never, canSpoil, spoilAt, spoiltBy, spoilIn, placedMet, SpoilsRight};
+ghost use Rattle.placed.specs.Bounds.{never, SettingsBounded};
+ghost use Rattle.state.specs.Spoils.{canSpoil, spoilAt, spoiltBy, spoilIn, placedMet, SpoilsRight};
+use crate::rows::NEED_CELLS;
 use crate::rows::end_at;
 use crate::rows::need_code_at;
 use crate::rows::need_variable_at;
 use crate::rows::set_at;
 use crate::rows::start_at;
 use crate::standing::standing_at;
+use placed::NEVER;
+use placed::SETTING_CELLS;
+use placed::TICK_CELLS;
 
 // Whether a set can spoil a need: both are there, and of different values.
 fn can_spoil(set: u16, need: u16) -> bool
@@ -26,10 +30,10 @@ fn can_spoil(set: u16, need: u16) -> bool
     set != need
 }
 
-// The first tick of effect at which the sets of row `n` spoil need number `j` of row `p`; 4,097 for never.
+// The first tick of effect at which the sets of row `n` spoil need number `j` of row `p`; `NEVER` where they spoil it at none.
 fn spoil_at<'a>(
-    ticks: &'a [u16; 256],
-    settings: &'a [u16; 1024],
+    ticks: &'a [u16; TICK_CELLS],
+    settings: &'a [u16; SETTING_CELLS],
     n: usize,
     p: usize,
     j: usize,
@@ -42,15 +46,15 @@ fn spoil_at<'a>(
         let standing = standing_at(ticks, settings, n, variable, start_at(ticks, p));
         return standing.since;
     }
-    4097
+    NEVER
 }
 
 // Writes the first tick of effect that spoils each need of the first `n`, four to an activity.
 pub fn fill_spoils<'a>(
-    ticks: &'a [u16; 256],
-    settings: &'a [u16; 1024],
+    ticks: &'a [u16; TICK_CELLS],
+    settings: &'a [u16; SETTING_CELLS],
     n: usize,
-    spoils: &mut [u16; 256],
+    spoils: &mut [u16; NEED_CELLS],
 )
     requires { ⌜ (n < 64) × SettingsBounded (now settings) (n + 1) × (length (now spoils) ≡ 256) ⌝ }
     ensures { λ _. ⌜ SpoilsRight (now (ticks .entry)) (now (settings .entry)) n (now (spoils .exit)) ⌝ }
@@ -61,13 +65,13 @@ pub fn fill_spoils<'a>(
 }
 
 // How many rows matter: one more than the last with a need that can be spoilt.
-pub fn rows_spoilt(spoils: &[u16; 256], n: usize) -> usize
+pub fn rows_spoilt(spoils: &[u16; NEED_CELLS], n: usize) -> usize
     requires { ⌜ n < 64 ⌝ }
     ensures { λ r. ⌜ (r ≤ n) × ((ticks : List ℕ) (e : ℕ) → e < never → placedMet (spoilIn (now (spoils .entry))) ticks n e ≡ placedMet (spoilIn (now (spoils .entry))) ticks r e) ⌝ }
 {
     let mut k = n * 4;
     while 0 < k {
-        if spoils[k - 1] < 4097 {
+        if spoils[k - 1] < NEVER {
             return (k + 3) / 4;
         }
         k -= 1;
@@ -77,8 +81,8 @@ pub fn rows_spoilt(spoils: &[u16; 256], n: usize) -> usize
 
 // Whether a tick of effect is in the range that spoils need number `j` of row `p`.
 fn spoilt_at<'a>(
-    ticks: &'a [u16; 256],
-    spoils: &'a [u16; 256],
+    ticks: &'a [u16; TICK_CELLS],
+    spoils: &'a [u16; NEED_CELLS],
     p: usize,
     j: usize,
     effect: u16,
@@ -94,8 +98,8 @@ fn spoilt_at<'a>(
 
 // Whether the needs of the first `rows` stay met with the candidate's sets in effect from `effect`.
 pub fn placed_needs_met<'a>(
-    ticks: &'a [u16; 256],
-    spoils: &'a [u16; 256],
+    ticks: &'a [u16; TICK_CELLS],
+    spoils: &'a [u16; NEED_CELLS],
     rows: usize,
     effect: u16,
 ) -> bool

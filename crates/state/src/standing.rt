@@ -4,6 +4,8 @@ ghost use Prim.Native.Nat.{_<_, _≤_};
 ghost use Rattle.state.specs.Standing.{laterValue, standingBy};
 use crate::rows::end_at;
 use crate::rows::set_at;
+use placed::SETTING_CELLS;
+use placed::TICK_CELLS;
 
 // The code of a variable's value, and the tick from which it stands.
 pub struct StandingValue {
@@ -28,8 +30,8 @@ fn later(end: u16, code: u16, tick: u16, before: StandingValue) -> StandingValue
 
 // The value of a variable that stands at a tick by the sets of the first `n`.
 pub fn standing_at<'a>(
-    ticks: &'a [u16; 256],
-    settings: &'a [u16; 1024],
+    ticks: &'a [u16; TICK_CELLS],
+    settings: &'a [u16; SETTING_CELLS],
     n: usize,
     variable: u16,
     t: u16,

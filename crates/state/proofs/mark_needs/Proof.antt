@@ -11,17 +11,17 @@ use Rattle.state.proofs.mark_needs.Statement.{statement}
 use Rattle.state.proofs.mark_needs.Tie as tie
 
 abbrev Inv-loop : tie.InvT-loop
-Inv-loop ticks settings spoils n rows duration count by table₀ s₀ table s =
+Inv-loop ticks settings codes spoils n rows duration count by table₀ s₀ table s =
     (s ≤ count) × Marked (needsMet ticks settings n (spoilIn spoils) rows duration) by s table₀ table
 
 abbrev μ-loop : tie.MeasureT-loop
-μ-loop ticks settings spoils n rows duration count by table₀ s₀ table s = count - s
+μ-loop ticks settings codes spoils n rows duration count by table₀ s₀ table s = count - s
 
 loop-holds : tie.Need-loop-holds Inv-loop μ-loop
 loop-holds c = (omega arith, none-marked _ _ _)
 
 needs-met-requires : tie.Need-needs-met-requires Inv-loop μ-loop
-needs-met-requires c κs = let p = c .before .before .before .pre in (p .0 .0, p .0 .1, p .0 .2, omega arith)
+needs-met-requires c κs = let p = c .before .before .before .pre in ((p .0 .0, p .0 .1, p .0 .2), (p .0 .3, omega arith))
 
 raise-requires : tie.Need-raise-requires Inv-loop μ-loop
 raise-requires c κs =

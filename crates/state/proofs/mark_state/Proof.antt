@@ -7,6 +7,9 @@ use Rattle.state.proofs.SpoilsTable.{needs-all}
 use Rattle.state.proofs.mark_state.Statement.{statement}
 use Rattle.state.proofs.mark_state.Tie as tie
 
+fill-codes-requires : tie.Need-fill-codes-requires
+fill-codes-requires c κs = search needs
+
 fill-spoils-requires : tie.Need-fill-spoils-requires
 fill-spoils-requires c κs = search needs
 
@@ -22,11 +25,12 @@ same-length c = search needs
 returns : tie.Need-returns
 returns c =
     let m = c .before .before in
-    let r = m .before .before .before in
+    let r = m .before .before .before .before in
     let f = r .before .before in
-    same-marked _ _ _ _ _ _ (λ s l. needs-all _ _ _ _ _ _ s (f .fill-spoils .ensures) (r .rows-spoilt .ensures .1 _ _ (omega arith))) (m .mark-needs .ensures)
+    let s = f .before .before .before .before .before in
+    same-marked _ _ _ _ _ _ (λ k l. needs-all _ _ _ _ _ _ k (f .fill-spoils .ensures) (r .rows-spoilt .ensures .1 _ _ (omega (arith, s .pre .1 .0)))) (m .mark-needs .ensures)
 
 pub mark-state-spec : {M : Type 1} → statement M
 mark-state-spec =
     tie.close
-    (tie.spec fill-spoils-requires rows-spoilt-requires mark-needs-requires same-length returns)
+    (tie.spec fill-codes-requires fill-spoils-requires rows-spoilt-requires mark-needs-requires same-length returns)

@@ -6,23 +6,24 @@ use mathlib.Core.Bool.{true, false}
 use borrow.Author.Count.{below-more}
 use native.Mathlib.Omega.{arith}
 use Rattle.state.specs.Own.{unmetAt, judged, ownMet}
+use Rattle.state.proofs.CodesTable.{judged-there}
 use Rattle.state.proofs.Loops.{none-holds, one-holds}
 use Rattle.state.proofs.own.own_needs_met.Statement.{statement}
 use Rattle.state.proofs.own.own_needs_met.Tie as tie
 
 abbrev Inv-ticks : tie.InvT-ticks
-Inv-ticks ticks settings n start end met₀ j count k₀ met k =
+Inv-ticks ticks settings codes n start end met₀ j count k₀ met k =
     (met ≡ true) × (k ≤ count) × ((i : ℕ) → i < k → unmetAt ticks settings n j start end i ≡ false)
 
 abbrev μ-ticks : tie.MeasureT-ticks
-μ-ticks ticks settings n start end met₀ j count k₀ met k = count - k
+μ-ticks ticks settings codes n start end met₀ j count k₀ met k = count - k
 
 abbrev Inv-needs : tie.InvT-needs
-Inv-needs ticks settings n start end met₀ j₀ met j =
+Inv-needs ticks settings codes n start end met₀ j₀ met j =
     (met ≡ true) × (j ≤ 4) × ((i : ℕ) → i < j → (k : ℕ) → k < judged settings n i → unmetAt ticks settings n i start end k ≡ false)
 
 abbrev μ-needs : tie.MeasureT-needs
-μ-needs ticks settings n start end met₀ j₀ met j = 4 - j
+μ-needs ticks settings codes n start end met₀ j₀ met j = 4 - j
 
 needs-holds : tie.Need-needs-holds Inv-ticks μ-ticks Inv-needs μ-needs
 needs-holds c = (refl, omega arith, λ i l. absurd (omega arith))
@@ -34,7 +35,10 @@ ticks-holds : tie.Need-ticks-holds Inv-ticks μ-ticks Inv-needs μ-needs
 ticks-holds c = (c .before .before .needs .inv .0, omega arith, λ i l. absurd (omega arith))
 
 unmet-at-requires : tie.Need-unmet-at-requires Inv-ticks μ-ticks Inv-needs μ-needs
-unmet-at-requires c κs = (omega arith, omega arith, c .before .before .before .before .before .pre .1)
+unmet-at-requires c κs =
+    let n = c .before .before .before .before in
+    let s = n .before in
+    ((omega arith, omega arith, s .pre .1), (s .pre .2, judged-there (s .args .settings .now) (s .args .n) (n .needs .j) (c .before .ticks .k) (omega arith)))
 
 add-k : tie.Need-add-k Inv-ticks μ-ticks Inv-needs μ-needs
 add-k c = omega arith

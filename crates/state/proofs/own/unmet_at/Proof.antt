@@ -1,7 +1,6 @@
 -- `unmet_at` meets its contract.
 -- Assumes nothing.
 use mathlib.Core.Path.{sym}
-use native.Mathlib.Omega.{arith}
 use borrow.Author.Needs.{needs}
 use borrow.Author.Tests.{le-leb, lt-leb, lt-ltb, le-ltb}
 use Rattle.state.specs.Own.{unmetAt}
@@ -19,13 +18,8 @@ returns-2 : tie.Need-returns-2
 unfolding unmetAt
 returns-2 c = simp (sym (c .before .before .change-at .ensures), le-leb _ _ (c .before .if1 .left), le-ltb _ _ (c .if2 .taken))
 
-need-variable-at-requires : tie.Need-need-variable-at-requires
-need-variable-at-requires c κs = search needs
-
-standing-at-requires : tie.Need-standing-at-requires
-standing-at-requires c κs =
-    let s = c .before .before .before .before in
-    omega (arith, s .pre .2 .variables (s .args .n) (s .args .j) (omega arith) (omega arith))
+code-at-requires : tie.Need-code-at-requires
+code-at-requires c κs = search needs
 
 need-code-at-requires : tie.Need-need-code-at-requires
 need-code-at-requires c κs = search needs
@@ -33,8 +27,8 @@ need-code-at-requires c κs = search needs
 returns-3 : tie.Need-returns-3
 unfolding unmetAt
 returns-3 c =
-    let v = c .before .before .before in
-    simp (sym (v .before .before .before .change-at .ensures), le-leb _ _ (v .before .before .if1 .left), lt-ltb _ _ (v .before .if2 .left), sym (v .need-variable-at .ensures), sym (c .before .need-code-at .ensures), sym (c .before .before .standing-at .ensures))
+    let d = c .before .before in
+    rw (sym (c .before .code-at .ensures), sym (c .need-code-at .ensures)) (simp (sym (d .before .before .change-at .ensures), le-leb _ _ (d .before .if1 .left), lt-ltb _ _ (d .if2 .left)))
 
 pub unmet-at-spec : {M : Type 1} → statement M
 unmet-at-spec =
@@ -43,7 +37,6 @@ unmet-at-spec =
     change-at-requires
     returns
     returns-2
-    need-variable-at-requires
-    standing-at-requires
+    code-at-requires
     need-code-at-requires
     returns-3)

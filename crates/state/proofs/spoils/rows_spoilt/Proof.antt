@@ -3,7 +3,7 @@
 use Prim.Native.Nat.{ℕ, _*_, _≤_, _<_}
 use native.Mathlib.Omega.{arith}
 use lib.ListN.{getD}
-use Rattle.state.specs.Spoils.{never}
+use Rattle.placed.specs.Bounds.{never}
 use Rattle.state.proofs.SpoilsTable.{last-from, rows-same}
 use Rattle.state.proofs.spoils.rows_spoilt.Statement.{statement}
 use Rattle.state.proofs.spoils.rows_spoilt.Tie as tie
