@@ -12,7 +12,7 @@ use Rattle.rules.specs.Calls.{refusal, full, outcomeValues, refusing, filling, 
 use Rattle.rules.proofs.Ordered.{same-outcome, same-report, same-runs}
 use Rattle.plan.specs.View.{planView}
 use Rattle.plan.specs.declared.Plan.{Plan as PlanStruct}
-use Rattle.calls.proofs.Accepted.{AcceptedAs}
+use Rattle.placing.proofs.Accepted.{AcceptedAs}
 
 -- the bytes are refused
 module _ (s : List ℕ) (k n : ℕ) (e : reading s ≡ no k n) where

@@ -1,4 +1,3 @@
-pub mod Accepted
 pub mod Answering
 pub mod Running
 pub mod Writing

@@ -1,4 +1,4 @@
--- The runs of starts at a place, found in its table and written into two slices.
+-- The runs of starts, counted and written into two slices.
 -- Assumes nothing.
 use Prim.Native.Nat.{ℕ, _<_, _≤_}
 use mathlib.Core.Path.{_≡_, refl, _∙_, ap}
@@ -7,26 +7,12 @@ use mathlib.Core.List.{List, [], _∷_, map}
 use native.Mathlib.Omega.{arith}
 use lib.ListN.{length}
 use borrow.Author.Tests.{lt-ltb, le-ltb}
-use Rattle.rules.specs.Conditions.{meets}
-use Rattle.rules.specs.Outcomes.{starts, activityAt, placed}
-use Rattle.rules.specs.Runs.{runsFrom}
-use Rattle.rules.specs.Calls.{countTerms, refusal, full, Filled, sliceAfter, refusing, filling, runs}
+use Rattle.rules.specs.Calls.{countTerms, refusal, full, Filled, sliceAfter, refusing, filling}
 use Rattle.rules.specs.declared.Interval.{Interval}
 use Rattle.rules.specs.declared.CountAnswer.{CountAnswer}
 use Rattle.rules.specs.declared.CountAnswer.the-variants.{Count}
-use Rattle.activity.specs.View.{headerView}
-use Rattle.plan.specs.View.{planView}
-use Rattle.plan.specs.declared.Plan.{Plan as PlanStruct}
-use Rattle.sets.specs.Table.{Table}
-use Rattle.schedule.specs.Search.{meetsIn, column}
-use Rattle.schedule.proofs.Tabled.{table-runs}
+use Rattle.schedule.specs.Search.{column}
 use Rattle.calls.specs.Called.{SliceFilled, ColumnsFilled}
-
--- the runs in the table of a place are the runs at that place
-pub runs-are : (s : List ℕ) (q : PlanStruct) (k : ℕ) (table : List ℕ) → Table (meets (headerView (q .header)) (placed (planView s q) k) (activityAt (planView s q) k)) (starts (headerView (q .header)) (activityAt (planView s q) k)) table → (m n : ℕ)
-    → n ≡ starts (headerView (q .header)) (activityAt (planView s q) k) → runsFrom (meetsIn table m) 0 n ≡ runs (planView s q) k m
-unfolding runs planView
-runs-are s q k table T m n e = ap (runsFrom (meetsIn table m) 0) e ∙ table-runs _ _ table T m
 
 -- a result that the slice is too short for, and one that fits
 pub too-long : {A : Type 0} (room : ℕ) (xs : List A) → room < length xs → filling room xs ≡ refusing 10 0

@@ -3,3 +3,4 @@ pub mod Escapes
 pub mod RunTexts
 pub mod LetterTexts
 pub mod Answered
+pub mod PlaceTexts

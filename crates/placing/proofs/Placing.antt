@@ -17,6 +17,8 @@ use Rattle.rules.specs.WellFormed.{HeaderFormed, ActivityFormed}
 use Rattle.rules.specs.Outcomes.{noActivity, starts, activityAt, reply, added, placed, outcome}
 use Rattle.rules.specs.Conditions.{meets}
 use Rattle.rules.specs.Demand.{Right}
+use Rattle.rules.specs.Runs.{runsFrom}
+use Rattle.rules.specs.Calls.{runs}
 use Rattle.rules.specs.declared.Outcome.{Outcome}
 use Rattle.rules.specs.declared.Outcome.the-variants.{Placed, Refused}
 use Rattle.rules.proofs.Answers.{replied}
@@ -33,8 +35,10 @@ use Rattle.placed.specs.Held.{CandidateAt, Held, Reached}
 use Rattle.placed.proofs.Rows.{rows-none}
 use Rattle.placed.proofs.Filling.{held-beside}
 use Rattle.conditions.specs.Ready.{Beside}
+use Rattle.schedule.specs.Search.{meetsIn}
+use Rattle.schedule.proofs.Tabled.{table-runs}
 use Rattle.placing.specs.Answers.{answerIn, Small}
-use Rattle.placing.specs.Places.{Placeable, Candidate, PlacedTo, AnsweredTo}
+use Rattle.placing.specs.Places.{Placeable, Candidate, PlacedTo, AnsweredTo, TableAt}
 
 -- ---- an answer as a number
 pub small-placed : (s : ℕ) → s < 32768 → answerIn s ≡ Placed s
@@ -137,3 +141,8 @@ answered-next {s} {p} {k} {o} {answers} x h A e f =
           (λ i l. ap answerIn (getD-set-other answers k i x 0 (omega arith)) ∙ A .at i l)
           (ap answerIn (getD-set-same answers k x 0 (omega (arith, A .size))) ∙ e ∙ f);
     }
+
+-- the runs in the table of a place are the runs at that place
+pub runs-are : (s : List ℕ) (q : PlanStruct) (k : ℕ) (table : List ℕ) → TableAt s q k table → (m n : ℕ) → n ≡ starts (headerView (q .header)) (activityAt (planView s q) k) → runsFrom (meetsIn table m) 0 n ≡ runs (planView s q) k m
+unfolding runs planView
+runs-are s q k table T m n e = ap (runsFrom (meetsIn table m) 0) e ∙ table-runs _ _ table T m

@@ -35,7 +35,7 @@ pub order-again : (xs : List Activity) → order (order xs) ≡ order xs
 order-again xs = rising-order (order xs) (order-right xs .rising)
 
 module _ (p : Plan) where
-  same-activity : (k : ℕ) → activityAt (ordered p) k ≡ activityAt p k
+  pub same-activity : (k : ℕ) → activityAt (ordered p) k ≡ activityAt p k
   unfolding activityAt
   same-activity k = ap (λ (ys : List Activity). getD ys k noActivity) (order-again (p .activities))
 

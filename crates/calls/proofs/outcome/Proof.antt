@@ -4,7 +4,7 @@ use mathlib.Core.Path.{sym, _∙_, ap}
 use native.Mathlib.Omega.{arith}
 use borrow.Author.Needs.{needs}
 use Rattle.rules.specs.Calls.{full, outcomeValues, outcomeTerms}
-use Rattle.calls.proofs.Accepted.{read-as}
+use Rattle.placing.proofs.Accepted.{read-as}
 use Rattle.calls.proofs.Answering.{outcome-refused, outcome-beyond, outcome-answered}
 use Rattle.calls.proofs.outcome.Statement.{statement}
 use Rattle.calls.proofs.outcome.Tie as tie

@@ -4,7 +4,7 @@ use native.Mathlib.Omega.{arith}
 use borrow.Author.Needs.{needs}
 use Rattle.rules.specs.Report.{noLine}
 use Rattle.report.specs.Lines.{noText}
-use Rattle.calls.proofs.Accepted.{read-as}
+use Rattle.placing.proofs.Accepted.{read-as}
 use Rattle.calls.proofs.Answering.{output-refused, output-answered}
 use Rattle.calls.proofs.Writing.{printed}
 use Rattle.calls.proofs.output.Statement.{statement}

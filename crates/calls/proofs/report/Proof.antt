@@ -8,7 +8,7 @@ use lib.ListN.{length-replicate}
 use lib.Seq.{length-take-le}
 use Rattle.rules.specs.Calls.{filling}
 use Rattle.report.proofs.Writing.{wrote-length}
-use Rattle.calls.proofs.Accepted.{read-as}
+use Rattle.placing.proofs.Accepted.{read-as}
 use Rattle.calls.proofs.Answering.{report-refused, report-answered}
 use Rattle.calls.proofs.Running.{slice-kept}
 use Rattle.calls.proofs.Writing.{front-is, slice-as}

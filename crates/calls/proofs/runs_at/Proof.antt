@@ -2,7 +2,8 @@
 -- Assumes nothing.
 use mathlib.Core.Path.{sym, ap}
 use Rattle.rules.specs.Calls.{filling}
-use Rattle.calls.proofs.Running.{runs-are, columns-as}
+use Rattle.placing.proofs.Placing.{runs-are}
+use Rattle.calls.proofs.Running.{columns-as}
 use borrow.Author.Needs.{needs}
 use Rattle.calls.proofs.runs_at.Statement.{statement}
 use Rattle.calls.proofs.runs_at.Tie as tie

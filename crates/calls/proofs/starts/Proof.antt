@@ -2,7 +2,7 @@
 -- Assumes nothing.
 use native.Mathlib.Omega.{arith}
 use borrow.Author.Needs.{needs}
-use Rattle.calls.proofs.Accepted.{read-as}
+use Rattle.placing.proofs.Accepted.{read-as}
 use Rattle.calls.proofs.Answering.{starts-refused, starts-beyond, starts-no-set, starts-answered}
 use Rattle.calls.proofs.Running.{columns-kept, columns-as}
 use Rattle.calls.proofs.starts.Statement.{statement}
