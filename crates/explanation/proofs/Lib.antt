@@ -3,4 +3,8 @@ pub mod Escapes
 pub mod RunTexts
 pub mod LetterTexts
 pub mod Answered
+pub mod FileLines
+pub mod FieldTexts
 pub mod PlaceTexts
+pub mod WrongFields
+pub mod Named

@@ -71,20 +71,19 @@ firstWrong i (right ∷ rest) = cond right (firstWrong (suc i) rest) i
 unfoldable pub horizonOf : List ℕ → ℕ
 horizonOf s = readNumber (numberField 1 4096 (field (fields (lineAt s 1)) 1))
 
--- the field that draws 3, 4 or 8 on line n
-unfoldable pub wrongField : List ℕ → ℕ → ℕ
-wrongField s n =
-    let fs = fields (lineAt s n) in
-    cond (eqb n 1) (firstWrong 1 (planFields fs)) (firstWrong 1 (actFields (horizonOf s) fs))
+-- the field of line n, the bytes l, that draws 3, 4 or 8 in a plan of this horizon
+unfoldable pub wrongField : ℕ → ℕ → List ℕ → ℕ
+wrongField horizon n l =
+    cond (eqb n 1) (firstWrong 1 (planFields (fields l))) (firstWrong 1 (actFields horizon (fields l)))
 
 -- the field that a refusal is about, or 0: 6 is about the id, 7 about after
-unfoldable pub fieldOf : List ℕ → Refusal → ℕ
-fieldOf s r =
-    cond (eqb (r .number) 2) 0
-    (cond (eqb (r .number) 5) 0
-    (cond (eqb (r .number) 6) 1
-    (cond (eqb (r .number) 7) 6
-    (wrongField s (r .line)))))
+unfoldable pub fieldOf : ℕ → ℕ → ℕ → List ℕ → ℕ
+fieldOf horizon number n l =
+    cond (eqb number 2) 0
+    (cond (eqb number 5) 0
+    (cond (eqb number 6) 1
+    (cond (eqb number 7) 6
+    (wrongField horizon n l))))
 
 -- what line n must be
 unfoldable pub lineWords : ℕ → List ℕ
@@ -94,49 +93,46 @@ lineWords n = cond (eqb n 1) planLineWords actLineWords
 unfoldable pub fieldWords : ℕ → ℕ → List ℕ
 fieldWords n i = cond (eqb n 1) (planFieldWords i) (actFieldWords i)
 
--- line n as it is read
-unfoldable pub lineText : List ℕ → ℕ → List ℕ
-lineText s n =
+-- line n, the bytes l, as it is read
+unfoldable pub lineText : ℕ → List ℕ → List ℕ
+lineText n l =
     together (
     bytes "line "
     ∷ decimal n
     ∷ bytes ": "
-    ∷ shown (lineAt s n)
+    ∷ shown l
     ∷ bytes "\nfields: "
-    ∷ decimal (length (fields (lineAt s n)))
+    ∷ decimal (length (fields l))
     ∷ bytes "\n"
     ∷ [])
 
--- field i of line n, and what it must be; where i is 0, what the line must be
-unfoldable pub fieldText : List ℕ → ℕ → ℕ → List ℕ
-fieldText s n zero = together (bytes "must be: " ∷ lineWords n ∷ bytes "\n" ∷ [])
-fieldText s n (suc i) =
+-- its field i, and what it must be; where i is 0, what the line must be
+unfoldable pub fieldText : ℕ → List ℕ → ℕ → List ℕ
+fieldText n l zero = together (bytes "must be: " ∷ lineWords n ∷ bytes "\n" ∷ [])
+fieldText n l (suc i) =
     together (
     bytes "field "
     ∷ decimal (suc i)
     ∷ bytes ": "
-    ∷ shown (field (fields (lineAt s n)) (suc i))
+    ∷ shown (field (fields l) (suc i))
     ∷ bytes "\nmust be: "
     ∷ fieldWords n (suc i)
     ∷ bytes "\n"
     ∷ [])
 
--- 1 and 9 are about no line
-unfoldable pub placeOfRefusal : List ℕ → Refusal → List ℕ
-placeOfRefusal s r = cond (eqb (r .line) 0) [] (lineText s (r .line) ++ fieldText s (r .line) (fieldOf s r))
+-- the line that a refusal is about; 1 and 9 are about none
+unfoldable pub refusedLine : List ℕ → ℕ → ℕ → List ℕ
+refusedLine s number n =
+    let l = lineAt s n in
+    cond (eqb n 0) [] (together (lineText n l ∷ fieldText n l (fieldOf (horizonOf s) number n l) ∷ []))
+
+-- the number and line of a refusal, and the number in words
+unfoldable pub refusalLine : ℕ → ℕ → List ℕ
+refusalLine number n =
+    together (bytes "refused " ∷ decimal number ∷ bytes " at line " ∷ decimal n ∷ bytes ": " ∷ refusalWords number ∷ bytes "\n" ∷ [])
 
 unfoldable pub refusedText : List ℕ → Refusal → List ℕ
-refusedText s r =
-    together (
-    bytes "refused "
-    ∷ decimal (r .number)
-    ∷ bytes " at line "
-    ∷ decimal (r .line)
-    ∷ bytes ": "
-    ∷ refusalWords (r .number)
-    ∷ bytes "\n"
-    ∷ placeOfRefusal s r
-    ∷ [])
+refusedText s r = together (refusalLine (r .number) (r .line) ∷ refusedLine s (r .number) (r .line) ∷ [])
 
 unfoldable pub explainedAs : List ℕ → Reading → List ℕ
 explainedAs s (accepted p) = acceptedText p

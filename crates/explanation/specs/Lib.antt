@@ -4,3 +4,4 @@ pub mod Places
 pub mod Explained
 pub mod Writing
 pub mod Tabled
+pub mod Named

@@ -1,0 +1,41 @@
+-- `put_must_be` meets its contract.
+-- Assumes nothing.
+use Rattle.explanation.specs.Explained.{fieldText}
+use Rattle.explanation.proofs.Pieces.{wrote-none, wrote-then}
+use borrow.Author.Needs.{needs}
+use Rattle.explanation.proofs.refusal.put_must_be.Statement.{statement}
+use Rattle.explanation.proofs.refusal.put_must_be.Tie as tie
+
+slice-aggregate-put-word : tie.Need-slice-aggregate-put-word
+slice-aggregate-put-word c = search needs
+
+put-word-requires : tie.Need-put-word-requires
+put-word-requires c κs = search needs
+
+put-line-words-requires : tie.Need-put-line-words-requires
+put-line-words-requires c κs = search needs
+
+slice-aggregate-put-word-2 : tie.Need-slice-aggregate-put-word-2
+slice-aggregate-put-word-2 c = search needs
+
+put-word-requires-2 : tie.Need-put-word-requires-2
+put-word-requires-2 c κs = search needs
+
+same-length : tie.Need-same-length
+same-length c = search needs
+
+returns : tie.Need-returns
+unfolding fieldText
+returns c = wrote-then (c .before .before .before .before .before .before .before .before .before .before .before .put-word .ensures) (wrote-then (c .before .before .before .before .before .before .before .put-line-words .ensures) (wrote-then (c .before .before .put-word2 .ensures) (wrote-none _ _)))
+
+pub put-must-be-spec : {M : Type 1} → statement M
+put-must-be-spec =
+    tie.close
+    (tie.spec
+    slice-aggregate-put-word
+    put-word-requires
+    put-line-words-requires
+    slice-aggregate-put-word-2
+    put-word-requires-2
+    same-length
+    returns)
