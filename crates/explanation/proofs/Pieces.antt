@@ -8,7 +8,8 @@ use lib.ListN.{length, getD, take, drop, set, length-append, length-take, length
 use lib.Seq.{take-nil, drop-nil, take-all, take-append-le, drop-append-le, drop-cons, set-append-seam, length-front, take-at}
 use Rattle.rules.specs.Calls.{sliceAfter}
 use Rattle.text.specs.Text.{put}
-use Rattle.explanation.specs.Writing.{part, Stands, Wrote}
+use Rattle.explanation.specs.Explained.{part}
+use Rattle.explanation.specs.Writing.{Stands, Wrote}
 use Rattle.explanation.specs.declared.writing.Cursor.{Cursor}
 
 -- nothing is written yet

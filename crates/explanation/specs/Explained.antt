@@ -1,19 +1,25 @@
 -- What a plan file is explained as: the text of its refusal, or of its places.
 use Prim.Native.Nat.{ℕ, zero, suc}
+use mathlib.Core.Path.{_≡_}
 use mathlib.Core.Bool.{Bool, true, false, cond}
 use mathlib.Core.List.{List, [], _∷_, _++_}
 use lib.Dec.{eqb}
-use lib.ListN.{length}
+use lib.ListN.{length, take, drop}
 use Rattle.rules.specs.Bytes.{bytes}
 use Rattle.rules.specs.Number.{decimal}
 use Rattle.rules.specs.Lines.{fields, field}
 use Rattle.rules.specs.Fields.{Read, value, fault, numberField, listField, numbers, windowKind, settingKind}
 use Rattle.rules.specs.Faults.{lineAt}
 use Rattle.rules.specs.Reading.{Reading, accepted, refused, reading}
+use Rattle.rules.specs.Calls.{sliceAfter}
 use Rattle.rules.specs.declared.Refusal.{Refusal}
 use Rattle.explanation.specs.Words.{refusalWords, planLineWords, actLineWords, planFieldWords, actFieldWords}
 use Rattle.explanation.specs.Shown.{shown}
 use Rattle.explanation.specs.Places.{together, acceptedText}
+
+-- the part of a text from byte `from` on that a slice of `room` bytes holds
+unfoldable pub part : ℕ → ℕ → List ℕ → List ℕ
+part from room text = take room (drop from text)
 
 -- whether a field is read as a value
 unfoldable pub isRead : {A : Type 0} → Read A → Bool
@@ -140,3 +146,8 @@ explainedAs s (refused r) = refusedText s r
 
 unfoldable pub explained : List ℕ → List ℕ
 explained s = explainedAs s (reading s)
+
+-- the call: the part of the text from byte `from` on that fits is written to the front of the lent slice, and its length answered
+pub record ExplainCalled (s : List ℕ) (from : ℕ) (lent : List ℕ) (r : ℕ) (after : List ℕ) : Type 0 where
+  pub count : r ≡ length (part from (length lent) (explained s))
+  pub slice : after ≡ sliceAfter (part from (length lent) (explained s)) lent

@@ -2,13 +2,10 @@
 use Prim.Native.Nat.{ℕ, _-_}
 use mathlib.Core.Path.{_≡_}
 use mathlib.Core.List.{List, _++_}
-use lib.ListN.{length, take, drop}
+use lib.ListN.{length}
 use Rattle.rules.specs.Calls.{sliceAfter}
+use Rattle.explanation.specs.Explained.{part}
 use Rattle.explanation.specs.declared.writing.Cursor.{Cursor}
-
--- the part of a text from byte `from` on that a slice of `room` bytes holds
-unfoldable pub part : ℕ → ℕ → List ℕ → List ℕ
-part from room text = take room (drop from text)
 
 -- the text is written: its part stands at the front of the slice that was lent, and the cursor is behind it
 pub record Stands (from : ℕ) (lent text : List ℕ) (c : Cursor) (slice : List ℕ) : Type 0 where

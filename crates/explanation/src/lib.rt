@@ -1,5 +1,11 @@
 // What a plan file is explained as, for people: of a refused file its line and field, of an accepted plan the starts of
-// each place (docs/PLANS.md).
+// each place (docs/EXPLAIN.md).
+ghost use Rattle.plan.specs.View.{planView};
+ghost use Rattle.placing.specs.Places.{Placeable};
+ghost use Rattle.explanation.specs.Places.{acceptedText};
+ghost use Rattle.explanation.specs.Explained.{ExplainCalled};
+ghost use Rattle.explanation.specs.Writing.{Wrote};
+
 mod places;
 mod refusal;
 mod runs;
@@ -7,3 +13,36 @@ mod shown;
 mod words;
 mod writing;
 mod wrong;
+
+use places::put_places;
+use plan::Plan;
+use refusal::put_refusal;
+use writing::Cursor;
+use writing::put_number;
+use writing::put_word;
+
+// Writes the text of an accepted plan, whose lines are those of s.
+fn put_accepted(out: &mut [u8], c: Cursor, s: &[u8], plan: Plan) -> Cursor
+    requires { ⌜ Placeable (now s) plan ⌝ }
+    ensures { λ r. ⌜ Wrote (acceptedText (planView (now (s .entry)) plan)) c (now (out .entry)) r (now (out .exit)) ⌝ }
+{
+    let mut at = put_word(out, c, b"accepted, activities: ");
+    at = put_number(out, at, plan.count as u64);
+    at = put_word(out, at, b"\n");
+    put_places(out, at, s, plan)
+}
+
+// Writes the text of a plan file, as far as it fits behind its first `from` bytes, to the front of `out`, and answers how
+// many bytes were written.
+pub fn explain(bytes: &[u8], from: usize, out: &mut [u8]) -> usize
+    ensures { λ r. ⌜ ExplainCalled (now (bytes .entry)) from (now (out .entry)) r (now (out .exit)) ⌝ }
+{
+    let begin = Cursor { skip: from, to: 0 };
+    let reading = plan::read(bytes);
+    if reading.number != 0 {
+        let end = put_refusal(out, begin, bytes, reading.number, reading.line);
+        return end.to;
+    }
+    let end = put_accepted(out, begin, bytes, reading.plan);
+    end.to
+}
