@@ -8,3 +8,4 @@ pub mod FieldTexts
 pub mod PlaceTexts
 pub mod WrongFields
 pub mod Named
+pub mod Explaining

@@ -1,39 +1,32 @@
+-- `explain` meets its contract.
+-- Assumes nothing.
+use native.Mathlib.Omega.{arith}
+use Rattle.placing.proofs.Accepted.{read-as}
+use Rattle.explanation.proofs.Explaining.{explained-refused, explained-accepted}
 use borrow.Author.Needs.{needs}
 use Rattle.explanation.proofs.explain.Statement.{statement}
 use Rattle.explanation.proofs.explain.Tie as tie
-use Rattle.explanation.proofs.explain.Reads as reads
-use Rattle.explanation.proofs.explain.Lts as lts
-use Rattle.explanation.proofs.put_accepted.Reads as put-accepted-reads
-use Rattle.explanation.proofs.refusal.put_refusal.Reads as put-refusal-reads
-use Rattle.plan.proofs.read.Reads as read-reads
 
--- src/lib.rt:41:9
 read-requires : tie.Need-read-requires
 read-requires c κs = search needs
 
--- src/lib.rt:43:13
 put-refusal-requires : tie.Need-put-refusal-requires
 put-refusal-requires c κs = search needs
 
--- src/lib.rt:44:9
 same-length : tie.Need-same-length
 same-length c = search needs
 
--- src/lib.rt:44:9
 returns : tie.Need-returns
-returns c = ?
+returns c = explained-refused (read-as _ _ (c .before .before .before .before .before .before .read .ensures .0) (c .before .before .before .before .before .before .read .ensures .1)) (λ e. omega arith) (c .before .before .put-refusal .ensures)
 
--- src/lib.rt:46:9
 put-accepted-requires : tie.Need-put-accepted-requires
-put-accepted-requires c κs = ?
+put-accepted-requires c κs = read-as _ _ (c .before .before .before .read .ensures .0) (c .before .before .before .read .ensures .1) .accepted (omega arith) .placeable
 
--- src/lib.rt:37:1
 same-length-2 : tie.Need-same-length-2
 same-length-2 c = search needs
 
--- src/lib.rt:37:1
 returns-2 : tie.Need-returns-2
-returns-2 c = ?
+returns-2 c = explained-accepted (read-as _ _ (c .before .before .before .before .before .before .read .ensures .0) (c .before .before .before .before .before .before .read .ensures .1)) (omega arith) (c .before .before .put-accepted .ensures)
 
 pub explain-spec : {M : Type 1} → statement M
 explain-spec =
