@@ -31,6 +31,11 @@ stands-length from lent text c old S =
     let fits : length (take (length lent) xs) ≡ length (take (length (take (length lent) xs)) lent) = simp length-take (omega arith) in
     ap length (S .holds) ∙ length-front lent (take (length lent) xs) (length (take (length lent) xs)) fits
 
+-- and the cursor stands within it
+pub stands-inside : (from : ℕ) (lent text : List ℕ) (c : Cursor) (old : List ℕ) → Stands from lent text c old → c .to ≤ length old
+unfolding part
+stands-inside from lent text c old S = omega (arith, S .behind, length-take (length lent) (drop from text), stands-length from lent text c old S)
+
 module _ (b : ℕ) (c : Cursor) (old : List ℕ) where
   -- a byte before the part
   pub byte-skipped : 0 < c .skip → Wrote (b ∷ []) c old (record { skip = c .skip - 1; to = c .to }) old

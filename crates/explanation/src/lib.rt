@@ -1,5 +1,7 @@
 // What a plan file is explained as, for people: of a refused file its line and field, of an accepted plan the starts of
 // each place (docs/EXPLAIN.md).
+ghost use Prim.Native.Nat.{_≤_};
+ghost use lib.ListN.{length};
 ghost use Rattle.plan.specs.View.{planView};
 ghost use Rattle.placing.specs.Places.{Placeable};
 ghost use Rattle.explanation.specs.Places.{acceptedText};
@@ -36,6 +38,8 @@ fn put_accepted(out: &mut [u8], c: Cursor, s: &[u8], plan: Plan) -> Cursor
 // many bytes were written.
 pub fn explain(bytes: &[u8], from: usize, out: &mut [u8]) -> usize
     ensures { λ r. ⌜ ExplainCalled (now (bytes .entry)) from (now (out .entry)) r (now (out .exit)) ⌝ }
+    // so that a caller can lend the front of `out`
+    ensures { λ r. ⌜ r ≤ length (now (out .exit)) ⌝ }
 {
     let begin = Cursor { skip: from, to: 0 };
     let reading = plan::read(bytes);

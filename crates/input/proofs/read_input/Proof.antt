@@ -6,8 +6,8 @@ use native.Mathlib.Omega.{arith}
 use lib.ListN.{length}
 use Rattle.io.proofs.Counting.{counts}
 use borrow.Author.Needs.{needs}
-use Rattle.planner.proofs.read_input.Statement.{statement}
-use Rattle.planner.proofs.read_input.Tie as tie
+use Rattle.input.proofs.read_input.Statement.{statement}
+use Rattle.input.proofs.read_input.Tie as tie
 
 abbrev Inv-loop : tie.InvT-loop
 Inv-loop buf₀ at₀ buf at = (at ≤ length buf) × (length buf ≡ length buf₀)
