@@ -35,7 +35,7 @@ use Rattle.rules.proofs.Refusing.{reading-number}
 use Rattle.rules.proofs.SameRuns.{call-few}
 use Rattle.rules.proofs.Says.{either-way}
 use Rattle.rules.proofs.Signed.{signed}
-use Rattle.calls.proofs.Accepted.{each-formed}
+use Rattle.placing.proofs.Accepted.{each-formed}
 use Rattle.station.specs.Unpacking.{reportMost, runsMost}
 
 -- ---- a refusal of the bytes: its line is at most that of the 65th activity
