@@ -9,3 +9,4 @@ pub mod PlaceTexts
 pub mod WrongFields
 pub mod Named
 pub mod Explaining
+pub mod Left

@@ -5,3 +5,4 @@ pub mod Explained
 pub mod Writing
 pub mod Tabled
 pub mod Named
+pub mod Left
