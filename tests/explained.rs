@@ -403,3 +403,15 @@ fn none_one_and_several_runs() {
     assert_eq!(said("act 2 2 1 0 20:30 - 0 - - 0 0 0 11 0\n"), refused);
     assert_eq!(said("act 2 2 1 0 - - 0 - - 0 0 0 11 0\n"), refused.replace("none", "0-1 3-4 6-9"));
 }
+
+// Conditions that are not named may exclude each other: 8 of document 01's input, with too large a volume.
+#[test]
+fn conditions_that_are_not_named() {
+    let plan = EXAMPLE.replace("0:8 7 - - - 0 0 0 0 0", "0:8 7 - - - 0 0 0 41 0");
+    let told = "place 1, activity 8: refused V
+  V: the volumes sum to at most the volume limit
+    starts that meet the other letters: 0-17
+    starts that meet all other conditions: none
+";
+    assert!(plan != EXAMPLE && text(&plan).contains(told));
+}
