@@ -117,7 +117,7 @@ fn bytes_of_an_editor() {
     let marked = [b"\xef\xbb\xbf".to_vec(), tabs(P)].concat();
     assert_eq!(explained(&marked), refused_2(1, &(r"\xef\xbb\xbf".to_string() + P_SHOWN), 12));
     let told = format!(
-        "refused 3 at line 1: {WORDS_3}\nline 1: {}\nfields: 12\nfield 11: 1\\r\nmust be: heater draw, 0 to 1000000\n",
+        "refused 3 at line 1: {WORDS_3}\nline 1: {}\nfields: 12\nfield 12: 1\\r\nmust be: heater draw, 0 to 1000000\n",
         P_SHOWN.replace(r"\n", r"\r\n")
     );
     assert_eq!(text(&P.replace('\n', "\r\n")), told);
@@ -153,7 +153,7 @@ fn bytes_of_a_field() {
     {
         let plan = [&tabs(P)[..], b"act\t", field.as_bytes(), &tabs(&A["act 7".len()..])].concat();
         let told = format!(
-            "refused 3 at line 2: {WORDS_3}\nline 2: {}\nfields: 15\nfield 1: {shown}\nmust be: id, 0 to 65535\n",
+            "refused 3 at line 2: {WORDS_3}\nline 2: {}\nfields: 15\nfield 2: {shown}\nmust be: id, 0 to 65535\n",
             A_SHOWN.replace(r"act\t7", &(r"act\t".to_string() + shown))
         );
         assert_eq!(explained(&plan), told);
@@ -175,7 +175,7 @@ must be: 15 fields parted by one tab each, the first of them act, and LF at the 
 fn refusal_6() {
     let told = format!(
         "refused 6 at line 3: an earlier line has the same id\nline 3: {A_SHOWN}\nfields: 15\n\
-         field 1: 7\nmust be: id, 0 to 65535\n"
+         field 2: 7\nmust be: id, 0 to 65535\n"
     );
     assert_eq!(text(&(P.to_string() + A + A)), told);
 }
@@ -184,7 +184,7 @@ fn refusal_6() {
 fn refusal_7() {
     let told = format!(
         "refused 7 at line 2: after names an id that no activity at an earlier place has\nline 2: {}\nfields: 15\n\
-         field 6: 7,9\nmust be: after, - or up to 8 ids, 0 to 65535, rising\n",
+         field 7: 7,9\nmust be: after, - or up to 8 ids, 0 to 65535, rising\n",
         A_SHOWN.replace(r"10\t-\t-\t0", r"10\t-\t7,9\t0")
     );
     assert_eq!(text(&(P.to_string() + &A.replace("10 - - 0", "10 - 7,9 0"))), told);

@@ -86,7 +86,7 @@ fn refused(bytes: &[u8], refusal: Refusal) -> String {
     let about = said + &numbered("line", line, line_of(bytes, line)) + &format!("fields: {}\n", fields.len());
     match field_of(bytes, refusal) {
         None => about + &format!("must be: {}\n", must_be[0]),
-        Some(field) => about + &numbered("field", field, fields[field]) + &format!("must be: {}\n", must_be[field]),
+        Some(field) => about + &numbered("field", field + 1, fields[field]) + &format!("must be: {}\n", must_be[field]),
     }
 }
 

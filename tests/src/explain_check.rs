@@ -34,7 +34,7 @@ pub fn check_refused(bytes: &[u8], fault: &Fault) -> Result<(), String> {
         };
         if let Some(field) = field {
             let own = rows[line - 1].split(|&b| b == b'\t').nth(field).unwrap();
-            lines.push((format!("field {field}: "), Bytes(own.to_vec())));
+            lines.push((format!("field {}: ", field + 1), Bytes(own.to_vec())));
         }
         lines.push(("must be: ".to_string(), Words));
     }

@@ -112,12 +112,12 @@ const SIZES: [&str; 3] = ["none", "one", "several"];
 
 // Each number with each field that may draw it, by whether the line is the first; field 0 is none.
 fn drawn() -> Vec<(bool, u32, usize)> {
-    let mut drawn = vec![(true, 2, 0), (false, 2, 0), (false, 5, 0), (false, 6, 1), (false, 7, 6)];
+    let mut drawn = vec![(true, 2, 0), (false, 2, 0), (false, 5, 0), (false, 6, 2), (false, 7, 7)];
     for number in [3, 4] {
-        drawn.extend((1..=11).map(|field| (true, number, field)));
-        drawn.extend((1..=14).map(|field| (false, number, field)));
+        drawn.extend((2..=12).map(|field| (true, number, field)));
+        drawn.extend((2..=15).map(|field| (false, number, field)));
     }
-    drawn.extend((5..=9).map(|field| (false, 8, field)));
+    drawn.extend((6..=10).map(|field| (false, 8, field)));
     drawn
 }
 

@@ -1,6 +1,6 @@
 -- A line without its last byte, and the text of a field.
 -- Assumes nothing.
-use Prim.Native.Nat.{ℕ, zero, suc, _-_}
+use Prim.Native.Nat.{ℕ, zero, suc, _+_, _-_}
 use mathlib.Core.Path.{_≡_, refl, ap}
 use mathlib.Core.Logic.{_≢_}
 use mathlib.Core.List.{List, [], _∷_}
@@ -20,7 +20,7 @@ pub front-of : (l : List ℕ) → take (length l - 1 - 0) (drop 0 l) ≡ take (l
 front-of l = let f : length l - 1 - 0 ≡ length l - 1 = omega arith in ap (λ (n : ℕ). take n l) f
 
 pub field-text : (n : ℕ) (l : List ℕ) (i : ℕ) → i ≢ 0
-    → fieldText n l i ≡ together (bytes "field " ∷ decimal i ∷ bytes ": " ∷ shown (field (fields l) i) ∷ bytes "\nmust be: " ∷ fieldWords n i ∷ bytes "\n" ∷ [])
+    → fieldText n l i ≡ together (bytes "field " ∷ decimal (i + 1) ∷ bytes ": " ∷ shown (field (fields l) i) ∷ bytes "\nmust be: " ∷ fieldWords n i ∷ bytes "\n" ∷ [])
 unfolding fieldText
 field-text n l zero h = absurd (h refl)
 field-text n l (suc i) h = refl

@@ -1,5 +1,5 @@
 -- What a plan file is explained as: the text of its refusal, or of its places.
-use Prim.Native.Nat.{ℕ, zero, suc}
+use Prim.Native.Nat.{ℕ, zero, suc, _+_}
 use mathlib.Core.Path.{_≡_}
 use mathlib.Core.Bool.{Bool, true, false, cond}
 use mathlib.Core.List.{List, [], _∷_, _++_}
@@ -112,13 +112,13 @@ lineText n l =
     ∷ bytes "\n"
     ∷ [])
 
--- its field i, and what it must be; where i is 0, what the line must be
+-- its field i, and what it must be; where i is 0, what the line must be. Fields are counted from 1 for people: i is written as i + 1
 unfoldable pub fieldText : ℕ → List ℕ → ℕ → List ℕ
 fieldText n l zero = together (bytes "must be: " ∷ lineWords n ∷ bytes "\n" ∷ [])
 fieldText n l (suc i) =
     together (
     bytes "field "
-    ∷ decimal (suc i)
+    ∷ decimal (suc i + 1)
     ∷ bytes ": "
     ∷ shown (field (fields l) (suc i))
     ∷ bytes "\nmust be: "

@@ -121,7 +121,7 @@ fn put_must_be(out: &mut [u8], c: Cursor, n: u32) -> Cursor
     put_word(out, at, b"\n")
 }
 
-// Writes field i of line n, and what it must be; where i is 0, what the line must be.
+// Writes field i of line n, for people counted from 1, and what it must be; where i is 0, what the line must be.
 fn put_field(out: &mut [u8], c: Cursor, n: u32, l: &[u8], i: u32) -> Cursor
     ensures { λ r. ⌜ Wrote (fieldText n (now (l .entry)) i) c (now (out .entry)) r (now (out .exit)) ⌝ }
 {
@@ -130,7 +130,7 @@ fn put_field(out: &mut [u8], c: Cursor, n: u32, l: &[u8], i: u32) -> Cursor
     }
     let field = field_at(without_last(l), i as usize);
     let mut at = put_word(out, c, b"field ");
-    at = put_number(out, at, i as u64);
+    at = put_number(out, at, i as u64 + 1);
     at = put_word(out, at, b": ");
     at = put_shown(out, at, field);
     at = put_word(out, at, b"\nmust be: ");

@@ -35,6 +35,9 @@ slice-aggregate-put-word c = search needs
 put-word-requires : tie.Need-put-word-requires
 put-word-requires c κs = search needs
 
+add-put-number : tie.Need-add-put-number
+add-put-number c = search needs
+
 put-number-requires : tie.Need-put-number-requires
 put-number-requires c κs = search needs
 
@@ -80,6 +83,7 @@ put-field-spec =
     field-at-requires
     slice-aggregate-put-word
     put-word-requires
+    add-put-number
     put-number-requires
     slice-aggregate-put-word-2
     put-word-requires-2
