@@ -209,7 +209,7 @@ fn check_field(said: String, line: usize, fields: usize, number: u32, field: usi
     assert_eq!(lines[0], format!("refused {number} at line {line}: {own}"), "{said}");
     assert!(lines[1].starts_with(&format!("line {line}: ")) && lines[1].ends_with(r"\n"), "{said}");
     assert_eq!(lines[2], format!("fields: {fields}"), "{said}");
-    assert_eq!(lines[3], format!("field {field}: {changed}"), "{said}");
+    assert_eq!(lines[3], format!("field {}: {changed}", field + 1), "{said}");
     assert_eq!(lines[4], format!("must be: {words}"), "{said}");
     assert_eq!(lines.len(), 5, "{said}");
 }
@@ -307,12 +307,12 @@ fn fields_at_the_ends_of_their_ranges() {
         for field in 1..=11 {
             let said = text(&(with_field(first, field, "x") + "\n"));
             assert!(said.starts_with("refused 3 at line 1: "), "{said}");
-            assert!(said.contains(&format!("\nfields: 12\nfield {field}: x\nmust be: ")), "{said}");
+            assert!(said.contains(&format!("\nfields: 12\nfield {}: x\nmust be: ", field + 1)), "{said}");
         }
         for field in 1..=14 {
             let said = text(&format!("{first}\n{}\n", with_field(other, field, "x")));
             assert!(said.starts_with("refused 3 at line 2: "), "{said}");
-            assert!(said.contains(&format!("\nfields: 15\nfield {field}: x\nmust be: ")), "{said}");
+            assert!(said.contains(&format!("\nfields: 15\nfield {}: x\nmust be: ", field + 1)), "{said}");
         }
     }
 }
