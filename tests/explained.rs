@@ -353,7 +353,7 @@ fn each_letter() {
         (
             "act 0 0 2 0 - - - 0=1 - 0 0 0 0 0\n",
             'S',
-            "every need, its own and those of the placed, is met in every tick",
+            "every need, its own and those of the placed, is met in each tick that its activity holds",
             "0-8",
         ),
         ("act 0 0 2 0 - - - - - 2 0 0 0 0\n", 'E', "in every tick the engines sum to at most those of the plan", "0-8"),

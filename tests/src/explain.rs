@@ -67,7 +67,7 @@ const CONDITIONS: [&str; 9] = [
     "the start is in one of its windows",
     "each activity in after is placed and ends by the start",
     "no placed activity that shares a unit holds one of its ticks",
-    "every need, its own and those of the placed, is met in every tick",
+    "every need, its own and those of the placed, is met in each tick that its activity holds",
     "in every tick the engines sum to at most those of the plan",
     "in every tick the peaks sum to at most the peak limit",
     "the charge keeps the floor, and the handover charge at the horizon",

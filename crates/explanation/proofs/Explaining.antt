@@ -11,9 +11,9 @@ use Rattle.plan.specs.declared.Reading.{Reading as ReadingStruct}
 use Rattle.placing.proofs.Accepted.{ReadAs}
 use Rattle.explanation.specs.Places.{acceptedText}
 use Rattle.explanation.specs.Explained.{refusedText, explainedAs, explained, ExplainCalled}
-use Rattle.explanation.specs.Writing.{Stands, Wrote}
-use Rattle.explanation.specs.declared.writing.Cursor.{Cursor}
-use Rattle.explanation.proofs.Pieces.{stands-none, stands-inside}
+use Rattle.wording.specs.Writing.{Stands, Wrote}
+use Rattle.wording.specs.declared.writing.Cursor.{Cursor}
+use Rattle.wording.proofs.Pieces.{stands-none, stands-inside}
 use Rattle.explanation.proofs.PlaceTexts.{accepted-ordered}
 
 -- a text written from its beginning is the call's

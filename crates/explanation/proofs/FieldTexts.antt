@@ -9,9 +9,10 @@ use lib.ListN.{length, take, drop}
 use Rattle.rules.specs.Bytes.{bytes}
 use Rattle.rules.specs.Number.{decimal}
 use Rattle.rules.specs.Lines.{fields, field}
-use Rattle.explanation.specs.Shown.{shown}
+use Rattle.wording.specs.Shown.{shown}
 use Rattle.explanation.specs.Places.{together}
-use Rattle.explanation.specs.Explained.{fieldWords, fieldText}
+use Rattle.wording.specs.Words.{fieldWords}
+use Rattle.explanation.specs.Explained.{fieldText}
 
 pub none-of : (l : List ℕ) → length l ≡ 0 → take (0 - 0) (drop 0 l) ≡ take (length l - 1) l
 none-of l e = let f : 0 - 0 ≡ length l - 1 = omega arith in ap (λ (n : ℕ). take n l) f

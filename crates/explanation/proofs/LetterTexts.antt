@@ -9,9 +9,9 @@ use Rattle.rules.specs.Bytes.{bytes}
 use Rattle.rules.specs.Conditions.{allConditions, has}
 use Rattle.rules.specs.declared.Interval.{Interval}
 use Rattle.explanation.specs.Places.{runsLine, letterLine, letterText, letterTexts}
-use Rattle.explanation.specs.Writing.{Wrote}
-use Rattle.explanation.specs.declared.writing.Cursor.{Cursor}
-use Rattle.explanation.proofs.Pieces.{wrote-none, wrote-then}
+use Rattle.wording.specs.Writing.{Wrote}
+use Rattle.wording.specs.declared.writing.Cursor.{Cursor}
+use Rattle.wording.proofs.Pieces.{wrote-none, wrote-then}
 
 module _ (runsOf : ℕ → List Interval) (m : ℕ) where
   pub letter-wrote : (n bit : ℕ) → bit ≡ 2 ^ n → {c : Cursor} {old : List ℕ} {d : Cursor} {mid : List ℕ} {e : Cursor} {next : List ℕ} {r : Cursor} {new : List ℕ} → Wrote (letterLine n) c old d mid

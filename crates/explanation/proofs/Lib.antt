@@ -1,12 +1,9 @@
-pub mod Pieces
-pub mod Escapes
 pub mod RunTexts
 pub mod LetterTexts
 pub mod Answered
 pub mod FileLines
 pub mod FieldTexts
 pub mod PlaceTexts
-pub mod WrongFields
 pub mod Named
 pub mod Explaining
 pub mod Left

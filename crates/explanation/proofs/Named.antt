@@ -23,7 +23,8 @@ use Rattle.rules.proofs.ListBack.{number-back}
 use Rattle.rules.proofs.Says.{Says, said, faulted}
 use Rattle.rules.proofs.FieldFacts.{number-says}
 use Rattle.rules.proofs.KindFacts.{counted, numbers-say, windows-say, settings-say}
-use Rattle.explanation.specs.Explained.{isRead, readNumber, planFields, actFields, firstWrong, horizonOf, wrongField, fieldOf}
+use Rattle.wording.specs.FirstWrong.{isRead, readNumber, planFields, actFields, firstWrong}
+use Rattle.explanation.specs.Explained.{horizonOf, wrongField, fieldOf}
 use Rattle.explanation.specs.Named.{Named}
 
 -- a number field is not both right and wrong

@@ -10,9 +10,9 @@ use Rattle.schedule.specs.Search.{Next}
 use Rattle.schedule.proofs.RunSteps.{run}
 use Rattle.schedule.proofs.NextRuns.{runsOn, no-run, some-runs, next-run}
 use Rattle.explanation.specs.Places.{runText, runTexts, runsText}
-use Rattle.explanation.specs.Writing.{Wrote}
-use Rattle.explanation.specs.declared.writing.Cursor.{Cursor}
-use Rattle.explanation.proofs.Pieces.{wrote-none, wrote-then, wrote-as}
+use Rattle.wording.specs.Writing.{Wrote}
+use Rattle.wording.specs.declared.writing.Cursor.{Cursor}
+use Rattle.wording.proofs.Pieces.{wrote-none, wrote-then, wrote-as}
 
 module _ (pass : ℕ → Bool) (count : ℕ) where
   abbrev whole : runsFrom pass 0 count ≡ runsOn pass count 0

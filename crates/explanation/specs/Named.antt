@@ -7,7 +7,8 @@ use Rattle.rules.specs.Plan.{Header, Activity}
 use Rattle.rules.specs.Lines.{fields}
 use Rattle.rules.specs.Forms.{FieldsFault, planForms, actForms}
 use Rattle.rules.specs.Faults.{lineAt, Begins}
-use Rattle.explanation.specs.Explained.{planFields, actFields, firstWrong, horizonOf, fieldOf}
+use Rattle.wording.specs.FirstWrong.{planFields, actFields, firstWrong}
+use Rattle.explanation.specs.Explained.{horizonOf, fieldOf}
 
 pub record Named : Type 0 where
   -- of the fields of a plan's first line

@@ -12,7 +12,7 @@ use Rattle.rules.specs.Calls.{runs}
 use Rattle.rules.specs.declared.Interval.{Interval}
 use Rattle.rules.specs.declared.Outcome.{Outcome}
 use Rattle.rules.specs.declared.Outcome.the-variants.{Placed, Refused}
-use Rattle.explanation.specs.Words.{conditionWords}
+use Rattle.wording.specs.Words.{conditionWords}
 
 -- the pieces one behind the other
 abbrev pub together : List (List ℕ) → List ℕ

@@ -6,22 +6,18 @@ ghost use Rattle.plan.specs.View.{planView};
 ghost use Rattle.placing.specs.Places.{Placeable};
 ghost use Rattle.explanation.specs.Places.{acceptedText};
 ghost use Rattle.explanation.specs.Explained.{ExplainCalled};
-ghost use Rattle.explanation.specs.Writing.{Wrote};
+ghost use Rattle.wording.specs.Writing.{Wrote};
 
 mod places;
 mod refusal;
 mod runs;
-mod shown;
-mod words;
-mod writing;
-mod wrong;
 
 use places::put_places;
 use plan::Plan;
 use refusal::put_refusal;
-use writing::Cursor;
-use writing::put_number;
-use writing::put_word;
+use wording::writing::Cursor;
+use wording::writing::put_number;
+use wording::writing::put_word;
 
 // Writes the text of an accepted plan, whose lines are those of s.
 fn put_accepted(out: &mut [u8], c: Cursor, s: &[u8], plan: Plan) -> Cursor
@@ -34,8 +30,7 @@ fn put_accepted(out: &mut [u8], c: Cursor, s: &[u8], plan: Plan) -> Cursor
     put_places(out, at, s, plan)
 }
 
-// Writes the text of a plan file, as far as it fits behind its first `from` bytes, to the front of `out`, and answers how
-// many bytes were written.
+// Writes the part of a plan file's text from byte `from` on, as far as it fits, to the front of `out`, and answers its length.
 pub fn explain(bytes: &[u8], from: usize, out: &mut [u8]) -> usize
     ensures { λ r. ⌜ ExplainCalled (now (bytes .entry)) from (now (out .entry)) r (now (out .exit)) ⌝ }
     // so that a caller can lend the front of `out`

@@ -12,13 +12,8 @@ ghost use Rattle.placing.specs.Answers.{answerIn};
 ghost use Rattle.placing.specs.Places.{Placeable, TableAt};
 ghost use Rattle.explanation.specs.Places.{letterLine, letterText, letterTexts, outcomeText, placeText, placeTexts};
 ghost use Rattle.explanation.specs.Tabled.{runsIn};
-ghost use Rattle.explanation.specs.Writing.{Wrote};
+ghost use Rattle.wording.specs.Writing.{Wrote};
 use crate::runs::put_runs_line;
-use crate::words::put_condition_words;
-use crate::writing::Cursor;
-use crate::writing::put_byte;
-use crate::writing::put_number;
-use crate::writing::put_word;
 use placed::AMOUNT_CELLS;
 use placed::SETTING_CELLS;
 use placed::TICK_CELLS;
@@ -33,6 +28,11 @@ use rules::CONDITIONS;
 use rules::Outcome;
 use rules::PLACES;
 use rules::TICKS;
+use wording::words::put_condition_words;
+use wording::writing::Cursor;
+use wording::writing::put_byte;
+use wording::writing::put_number;
+use wording::writing::put_word;
 
 // Writes a letter and what it asks.
 fn put_letter_line(out: &mut [u8], c: Cursor, condition: u32) -> Cursor

@@ -6,20 +6,20 @@ ghost use lib.ListN.{length, take, drop};
 ghost use Rattle.rules.specs.Lines.{lines};
 ghost use Rattle.rules.specs.Faults.{lineAt};
 ghost use Rattle.explanation.specs.Explained.{horizonOf, wrongField, fieldOf, lineText, fieldText, refusalLine, refusedText};
-ghost use Rattle.explanation.specs.Writing.{Wrote};
-use crate::shown::put_shown;
-use crate::words::put_field_words;
-use crate::words::put_line_words;
-use crate::words::put_refusal_words;
-use crate::writing::Cursor;
-use crate::writing::put_number;
-use crate::writing::put_word;
-use crate::wrong::horizon_in;
-use crate::wrong::wrong_in_act;
-use crate::wrong::wrong_in_plan;
+ghost use Rattle.wording.specs.Writing.{Wrote};
 use text::field::field_at;
 use text::field::field_count;
 use text::field::find;
+use wording::shown::put_shown;
+use wording::words::put_field_words;
+use wording::words::put_line_words;
+use wording::words::put_refusal_words;
+use wording::writing::Cursor;
+use wording::writing::put_number;
+use wording::writing::put_word;
+use wording::wrong::horizon_in;
+use wording::wrong::wrong_in_act;
+use wording::wrong::wrong_in_plan;
 
 // The byte where line n begins, counted from 1; the length where there is no such line.
 fn line_begin(s: &[u8], n: u32) -> usize

@@ -2,12 +2,12 @@
 ghost use Prim.Native.Nat.{_≤_};
 ghost use Rattle.explanation.specs.Places.{runText, runTexts, runsText, runsLine};
 ghost use Rattle.explanation.specs.Tabled.{runsIn};
-ghost use Rattle.explanation.specs.Writing.{Wrote};
-use crate::writing::Cursor;
-use crate::writing::put_number;
-use crate::writing::put_word;
+ghost use Rattle.wording.specs.Writing.{Wrote};
 use rules::TICKS;
 use schedule::runs::next_start;
+use wording::writing::Cursor;
+use wording::writing::put_number;
+use wording::writing::put_word;
 
 // Writes a run of starts.
 fn put_run(out: &mut [u8], c: Cursor, first: u32, last: u32) -> Cursor

@@ -1,4 +1,5 @@
-// The runs of starts that meet a set of conditions, counted and written from the last start to the first.
+// The runs of starts that meet a set of conditions, counted and written from the last start to the first; and the next
+// start from a given one on.
 ghost use mathlib.Core.Path.{_≡_};
 ghost use mathlib.Core.Bool.{true, cond, not, _&&_};
 ghost use mathlib.Core.List.{map};

@@ -2,7 +2,7 @@
 -- Assumes nothing.
 use Rattle.plan.proofs.Places.{place-count}
 use Rattle.explanation.specs.Places.{acceptedText}
-use Rattle.explanation.proofs.Pieces.{wrote-none, wrote-then}
+use Rattle.wording.proofs.Pieces.{wrote-none, wrote-then}
 use borrow.Author.Needs.{needs}
 use Rattle.explanation.proofs.put_accepted.Statement.{statement}
 use Rattle.explanation.proofs.put_accepted.Tie as tie

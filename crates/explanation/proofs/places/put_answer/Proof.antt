@@ -4,7 +4,7 @@ use mathlib.Core.Path.{sym, _∙_, ap}
 use native.Mathlib.Omega.{arith}
 use Rattle.explanation.specs.Places.{outcomeText}
 use Rattle.explanation.specs.Tabled.{runsIn}
-use Rattle.explanation.proofs.Pieces.{wrote-as}
+use Rattle.wording.proofs.Pieces.{wrote-as}
 use Rattle.explanation.proofs.Answered.{refused-low}
 use borrow.Author.Needs.{needs}
 use Rattle.explanation.proofs.places.put_answer.Statement.{statement}

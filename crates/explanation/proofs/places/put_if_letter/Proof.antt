@@ -1,7 +1,7 @@
 -- `put_if_letter` meets its contract.
 -- Assumes nothing.
 use mathlib.Core.Path.{sym, _∙_}
-use Rattle.explanation.proofs.Pieces.{wrote-none}
+use Rattle.wording.proofs.Pieces.{wrote-none}
 use borrow.Author.Needs.{needs}
 use Rattle.explanation.proofs.places.put_if_letter.Statement.{statement}
 use Rattle.explanation.proofs.places.put_if_letter.Tie as tie

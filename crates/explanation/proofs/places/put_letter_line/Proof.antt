@@ -3,7 +3,7 @@
 use mathlib.Core.Path.{ap}
 use mathlib.Core.List.{[], _∷_}
 use Rattle.explanation.specs.Places.{letterLine}
-use Rattle.explanation.proofs.Pieces.{wrote-none, wrote-then, wrote-as}
+use Rattle.wording.proofs.Pieces.{wrote-none, wrote-then, wrote-as}
 use borrow.Author.Needs.{needs}
 use Rattle.explanation.proofs.places.put_letter_line.Statement.{statement}
 use Rattle.explanation.proofs.places.put_letter_line.Tie as tie

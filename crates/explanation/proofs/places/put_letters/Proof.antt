@@ -8,8 +8,8 @@ use borrow.Author.Needs.{needs}
 use Rattle.rules.specs.Conditions.{conditionCount}
 use Rattle.explanation.specs.Places.{letterTexts}
 use Rattle.explanation.specs.Tabled.{runsIn}
-use Rattle.explanation.specs.Writing.{Wrote}
-use Rattle.explanation.proofs.Pieces.{wrote-as}
+use Rattle.wording.specs.Writing.{Wrote}
+use Rattle.wording.proofs.Pieces.{wrote-as}
 use Rattle.explanation.proofs.LetterTexts.{letters-none, letters-more}
 use Rattle.explanation.proofs.places.put_letters.Statement.{statement}
 use Rattle.explanation.proofs.places.put_letters.Tie as tie

@@ -5,7 +5,7 @@ use native.Mathlib.Omega.{arith}
 use Rattle.rules.specs.Number.{decimal}
 use Rattle.activity.specs.View.{activityView}
 use Rattle.explanation.specs.Places.{outcomeText, placeText}
-use Rattle.explanation.proofs.Pieces.{wrote-none, wrote-then, wrote-as}
+use Rattle.wording.proofs.Pieces.{wrote-none, wrote-then, wrote-as}
 use Rattle.explanation.proofs.PlaceTexts.{outcome-is}
 use borrow.Author.Needs.{needs}
 use Rattle.explanation.proofs.places.put_place.Statement.{statement}

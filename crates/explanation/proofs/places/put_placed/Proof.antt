@@ -6,7 +6,7 @@ use native.Mathlib.Omega.{arith}
 use Rattle.rules.specs.Number.{decimal}
 use Rattle.rules.specs.Plan.{end, at}
 use Rattle.explanation.specs.Places.{outcomeText}
-use Rattle.explanation.proofs.Pieces.{wrote-none, wrote-then, wrote-as}
+use Rattle.wording.proofs.Pieces.{wrote-none, wrote-then, wrote-as}
 use borrow.Author.Needs.{needs}
 use Rattle.explanation.proofs.places.put_placed.Statement.{statement}
 use Rattle.explanation.proofs.places.put_placed.Tie as tie

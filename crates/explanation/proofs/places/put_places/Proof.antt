@@ -9,8 +9,8 @@ use Rattle.plan.specs.View.{planView}
 use Rattle.placing.specs.Places.{Sized, PlacedTo, AnsweredTo}
 use Rattle.placing.proofs.Placing.{placed-none, answered-none}
 use Rattle.explanation.specs.Places.{placeTexts}
-use Rattle.explanation.specs.Writing.{Wrote}
-use Rattle.explanation.proofs.Pieces.{wrote-none, wrote-then, wrote-as}
+use Rattle.wording.specs.Writing.{Wrote}
+use Rattle.wording.proofs.Pieces.{wrote-none, wrote-then, wrote-as}
 use Rattle.explanation.proofs.PlaceTexts.{places-more}
 use Rattle.explanation.proofs.places.put_places.Statement.{statement}
 use Rattle.explanation.proofs.places.put_places.Tie as tie

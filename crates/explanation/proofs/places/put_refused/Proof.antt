@@ -1,7 +1,7 @@
 -- `put_refused` meets its contract.
 -- Assumes nothing.
 use Rattle.explanation.specs.Places.{outcomeText}
-use Rattle.explanation.proofs.Pieces.{wrote-none, wrote-then}
+use Rattle.wording.proofs.Pieces.{wrote-none, wrote-then}
 use borrow.Author.Needs.{needs}
 use Rattle.explanation.proofs.places.put_refused.Statement.{statement}
 use Rattle.explanation.proofs.places.put_refused.Tie as tie

@@ -1,6 +1,6 @@
 -- `put_set` meets its contract.
 -- Assumes nothing.
-use Rattle.explanation.proofs.Pieces.{front-is, wrote-as}
+use Rattle.wording.proofs.Pieces.{front-is, wrote-as}
 use borrow.Author.Needs.{needs}
 use Rattle.explanation.proofs.places.put_set.Statement.{statement}
 use Rattle.explanation.proofs.places.put_set.Tie as tie

@@ -4,9 +4,9 @@ use mathlib.Core.Path.{sym, _∙_, ap}
 use mathlib.Core.List.{[]}
 use lib.ListN.{getD}
 use Rattle.rules.specs.Lines.{splitOn, fields}
-use Rattle.explanation.specs.Shown.{shown}
+use Rattle.wording.specs.Shown.{shown}
 use Rattle.explanation.specs.Explained.{fieldText}
-use Rattle.explanation.proofs.Pieces.{wrote-none, wrote-then, wrote-as}
+use Rattle.wording.proofs.Pieces.{wrote-none, wrote-then, wrote-as}
 use Rattle.explanation.proofs.FieldTexts.{field-text}
 use native.Mathlib.Omega.{arith}
 use borrow.Author.Needs.{needs}

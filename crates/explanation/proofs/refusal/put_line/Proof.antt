@@ -6,7 +6,7 @@ use lib.ListN.{length}
 use Rattle.rules.specs.Number.{decimal}
 use Rattle.rules.specs.Lines.{splitOn, fields}
 use Rattle.explanation.specs.Explained.{lineText}
-use Rattle.explanation.proofs.Pieces.{wrote-none, wrote-then, wrote-as}
+use Rattle.wording.proofs.Pieces.{wrote-none, wrote-then, wrote-as}
 use borrow.Author.Needs.{needs}
 use Rattle.explanation.proofs.refusal.put_line.Statement.{statement}
 use Rattle.explanation.proofs.refusal.put_line.Tie as tie

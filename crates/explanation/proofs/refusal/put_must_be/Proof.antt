@@ -1,7 +1,7 @@
 -- `put_must_be` meets its contract.
 -- Assumes nothing.
 use Rattle.explanation.specs.Explained.{fieldText}
-use Rattle.explanation.proofs.Pieces.{wrote-none, wrote-then}
+use Rattle.wording.proofs.Pieces.{wrote-none, wrote-then}
 use borrow.Author.Needs.{needs}
 use Rattle.explanation.proofs.refusal.put_must_be.Statement.{statement}
 use Rattle.explanation.proofs.refusal.put_must_be.Tie as tie

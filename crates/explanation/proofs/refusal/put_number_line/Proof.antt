@@ -2,7 +2,7 @@
 -- Assumes nothing.
 use native.Mathlib.Omega.{arith}
 use Rattle.explanation.specs.Explained.{refusalLine}
-use Rattle.explanation.proofs.Pieces.{wrote-none, wrote-then}
+use Rattle.wording.proofs.Pieces.{wrote-none, wrote-then}
 use borrow.Author.Needs.{needs}
 use Rattle.explanation.proofs.refusal.put_number_line.Statement.{statement}
 use Rattle.explanation.proofs.refusal.put_number_line.Tie as tie

@@ -2,7 +2,7 @@
 -- Assumes nothing.
 use borrow.Author.Tests.{eq-eqb, ne-eqb}
 use Rattle.explanation.specs.Explained.{refusedLine, refusedText}
-use Rattle.explanation.proofs.Pieces.{wrote-none, wrote-then}
+use Rattle.wording.proofs.Pieces.{wrote-none, wrote-then}
 use borrow.Author.Needs.{needs}
 use Rattle.explanation.proofs.refusal.put_refusal.Statement.{statement}
 use Rattle.explanation.proofs.refusal.put_refusal.Tie as tie

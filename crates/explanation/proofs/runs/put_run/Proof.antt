@@ -1,6 +1,6 @@
 -- `put_run` meets its contract.
 -- Assumes nothing.
-use Rattle.explanation.proofs.Pieces.{wrote-none, wrote-then}
+use Rattle.wording.proofs.Pieces.{wrote-none, wrote-then}
 use Rattle.explanation.specs.Places.{runText}
 use borrow.Author.Needs.{needs}
 use Rattle.explanation.proofs.runs.put_run.Statement.{statement}

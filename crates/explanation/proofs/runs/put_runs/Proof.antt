@@ -4,7 +4,7 @@ use mathlib.Core.Path.{sym}
 use native.Mathlib.Omega.{arith}
 use Rattle.schedule.specs.Search.{meetsIn}
 use Rattle.explanation.specs.Places.{runsText}
-use Rattle.explanation.proofs.Pieces.{wrote-as}
+use Rattle.wording.proofs.Pieces.{wrote-as}
 use Rattle.explanation.proofs.RunTexts.{none-is, some-are}
 use borrow.Author.Needs.{needs}
 use Rattle.explanation.proofs.runs.put_runs.Statement.{statement}

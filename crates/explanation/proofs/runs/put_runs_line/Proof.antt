@@ -1,7 +1,7 @@
 -- `put_runs_line` meets its contract.
 -- Assumes nothing.
 use Rattle.explanation.specs.Places.{runsLine}
-use Rattle.explanation.proofs.Pieces.{wrote-none, wrote-then}
+use Rattle.wording.proofs.Pieces.{wrote-none, wrote-then}
 use borrow.Author.Needs.{needs}
 use Rattle.explanation.proofs.runs.put_runs_line.Statement.{statement}
 use Rattle.explanation.proofs.runs.put_runs_line.Tie as tie
