@@ -1,4 +1,4 @@
--- The field that is named as wrong is the one at fault: of the fields left to right, the first that is not what it must be.
+-- The field that is named as wrong is the one at fault: of the fields left to right, the first that is not what it must be. A refused file has such a fault (`refused-fault` of `rules`); of 6 and 7 the field is said by definition.
 use Prim.Native.Nat.{ℕ, suc}
 use mathlib.Core.Path.{_≡_}
 use mathlib.Core.List.{List}

@@ -1,5 +1,5 @@
-// The greedy placing, place by place (document 01, Placing and refusing): one loop, which keeps the answers by place and
-// puts the entry of each activity that is placed into the tables of what is placed. Both are lent by the caller.
+// The greedy placing, place by place (document 01, Placing and refusing): the answers are kept by place, and the entry of
+// each activity that is placed is put into the tables of what is placed. All of them are lent by the caller.
 mod answers;
 mod next;
 
