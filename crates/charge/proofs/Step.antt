@@ -7,9 +7,10 @@ use native.Mathlib.Omega.{arith}
 use lib.IntN.{ℤ, pos, negsuc, _+ℤ_, _-ℤ_}
 use lib.Signed.{leZ, mag, _≤ℤ_}
 use mir.Syntax.{w64}
-use mir.Val.{toZ, ofZ}
+use mir.Val.{SFits, toZ, ofZ}
 use mir.Facts.{toZ-pos, toZ-ofZ}
 use Rattle.rules.specs.MeetsB.{smaller}
+use Rattle.rules.proofs.Tests.{is-true}
 use Rattle.rules.proofs.Level.{smaller-most}
 use Rattle.rules.proofs.Signed.{above, under, cond-by, add-parts, less-parts, signed}
 use Rattle.charge.specs.Charge.{chargeNext}
@@ -39,9 +40,16 @@ next-most capacity rate draw c = smaller-most _ _
 pub le-true : (a b : ℤ) → leZ a b ≡ true → a ≤ℤ b
 le-true a b e = record { le = rw e tt }
 
+pub le-leZ : (a b : ℤ) → a ≤ℤ b → leZ a b ≡ true
+le-leZ a b h = is-true (leZ a b) (h .le)
+
 -- a charge of 0 or more remains so where nothing is drawn
 pub next-least : (capacity rate : ℕ) (c : ℤ) → pos 0 ≤ℤ c → pos 0 ≤ℤ chargeNext capacity rate 0 c
 unfolding chargeNext smaller
 next-least capacity rate c l =
     let n = c +ℤ pos rate -ℤ pos 0 in
     cond-by (λ z. pos 0 ≤ℤ z) (leZ (pos capacity) n) (pos capacity) n (λ _. omega signed) (λ _. omega (signed, add-parts c (pos rate), less-parts (c +ℤ pos rate) 0))
+
+-- a charge less a limit fits
+pub less-fits : (z : ℤ) (capacity n : ℕ) → pos 0 ≤ℤ z → z ≤ℤ pos capacity → capacity < 2 ^ 32 → n < 2 ^ 32 → SFits w64 (z -ℤ pos n)
+less-fits z capacity n l m k j = omega (signed, less-parts z n, size-parts (z -ℤ pos n))

@@ -39,7 +39,7 @@ module _ (h : HeaderStruct) (draw : ℕ → ℕ) where
   not-kept t l e = rw (each-fails (λ u. leZ (pos (h .floor)) (chargeBy h draw u)) (suc (h .horizon)) t (omega arith) e) refl
 
   -- no tick under the floor
-  kept-last : ((t : ℕ) → t ≤ h .horizon → leZ (pos (h .floor)) (chargeBy h draw t) ≡ true) → keptBy h draw ≡ leZ (pos (h .handover)) (chargeBy h draw (h .horizon))
+  pub kept-last : ((t : ℕ) → t ≤ h .horizon → leZ (pos (h .floor)) (chargeBy h draw t) ≡ true) → keptBy h draw ≡ leZ (pos (h .handover)) (chargeBy h draw (h .horizon))
   unfolding keptBy
   kept-last f = rw (each-all (λ u. leZ (pos (h .floor)) (chargeBy h draw u)) (suc (h .horizon)) (λ u l. f u (omega arith))) refl
 

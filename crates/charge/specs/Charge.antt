@@ -1,12 +1,12 @@
 -- Condition B as the code tests it: what is drawn in each tick, the charges that it leaves, and whether they keep to the floor and the handover charge.
-use Prim.Native.Nat.{ℕ, zero, suc, _+_, _-_, _<_, _≤_}
+use Prim.Native.Nat.{ℕ, zero, suc, _+_, _*_, _-_, _<_, _≤_}
 use mathlib.Core.Path.{_≡_}
 use mathlib.Core.Bool.{Bool, true, cond, _&&_}
 use mathlib.Core.List.{List}
 use lib.Dec.{leb, ltb}
 use lib.IntN.{ℤ, pos, _+ℤ_, _-ℤ_}
 use lib.ListN.{length, getD}
-use lib.Signed.{leZ}
+use lib.Signed.{leZ, _≤ℤ_}
 use Rattle.rules.specs.Tests.{each}
 use Rattle.rules.specs.Warmup.{warmupAt}
 use Rattle.rules.specs.MeetsB.{smaller}
@@ -24,6 +24,10 @@ rowDraw h ticks amounts i = record { heat = heatAt ticks i; start = startAt tick
 -- what it draws at tick t
 unfoldable pub drawOf : OwnDraw → ℕ → ℕ
 drawOf o t = cond (ltb t (o .start)) (cond (leb (o .heat) t) (o .heater) 0) (cond (ltb t (o .end)) (o .draw) 0)
+
+-- what it draws in all
+unfoldable pub energyOf : OwnDraw → ℕ
+energyOf o = (o .start - o .heat) * o .heater + (o .end - o .start) * o .draw
 
 -- what the first n rows draw at tick t
 unfoldable pub drawnIn : HeaderStruct → List ℕ → List ℕ → ℕ → ℕ → ℕ
@@ -52,7 +56,7 @@ chargeBy h draw (suc t) = chargeNext (h .capacity) (h .rate) (draw t) (chargeBy 
 unfoldable pub keptBy : HeaderStruct → (ℕ → ℕ) → Bool
 keptBy h draw = each (λ t. leZ (pos (h .floor)) (chargeBy h draw t)) (suc (h .horizon)) && leZ (pos (h .handover)) (chargeBy h draw (h .horizon))
 
--- the same with an activity added at the start s
+-- the charge keeps the limits with an activity added at the start s
 unfoldable pub keptAt : HeaderStruct → (ℕ → ℕ) → ℕ → ℕ → ℕ → ℕ → Bool
 keptAt h draw duration own warm s = keptBy h (drawWith draw (ownDraw h s duration own warm))
 
@@ -75,3 +79,16 @@ pub record Ran (h : HeaderStruct) (draw : ℕ → ℕ) (from to : ℕ) (old new 
   pub past : (t : ℕ) → t ≤ from → getD new t (pos 0) ≡ getD old t (pos 0)
   pub next : (t : ℕ) → from ≤ t → t < to → getD new (t + 1) (pos 0) ≡ chargeNext (h .capacity) (h .rate) (draw t) (getD new t (pos 0))
   pub kept : (t : ℕ) → from ≤ t → t < to → leZ (pos (h .floor)) (getD new t (pos 0)) ≡ true
+
+-- an array of charges that are between 0 and the capacity to the horizon
+abbrev pub InRange : HeaderStruct → List ℤ → Type 0
+InRange h xs = (t : ℕ) → t ≤ h .horizon → (pos 0 ≤ℤ getD xs t (pos 0)) × (getD xs t (pos 0) ≤ℤ pos (h .capacity))
+
+-- the lowest charge of ticks 0 to t
+unfoldable pub lowestOf : List ℤ → ℕ → ℤ
+lowestOf xs zero = getD xs 0 (pos 0)
+lowestOf xs (suc t) = smaller (lowestOf xs t) (getD xs (suc t) (pos 0))
+
+-- the least by which the charges are over the floor, and over the handover charge at the horizon
+unfoldable pub spareOf : HeaderStruct → List ℤ → ℤ
+spareOf h xs = smaller (lowestOf xs (h .horizon) -ℤ pos (h .floor)) (getD xs (h .horizon) (pos 0) -ℤ pos (h .handover))

@@ -8,7 +8,7 @@ ghost use mathlib.Core.Path.{_≡_};
 ghost use Prim.Native.Nat.{ℕ, _+_, _<_, _≤_};
 ghost use lib.ListN.{length, getD};
 ghost use Rattle.placed.specs.Bounds.{TicksBounded, AmountsBounded};
-ghost use Rattle.charge.specs.Charge.{ownDraw, rowDraw, drawOf, drawnIn};
+ghost use Rattle.charge.specs.Charge.{ownDraw, rowDraw, drawOf, energyOf, drawnIn};
 
 // What one activity draws: the heater's draw from `heat` to before `start`, its own from there to before `end`.
 pub struct OwnDraw {
@@ -32,6 +32,16 @@ pub fn own_draw(header: Header, start: u32, duration: u32, draw: u32, warm: u32)
         draw,
         heater: header.heater,
     }
+}
+
+// What one activity draws in all.
+pub fn energy(own: OwnDraw) -> u64
+    requires { ⌜ (own .heat ≤ own .start) × (own .start ≤ own .end) × (own .end ≤ 4096) ⌝ }
+    ensures { λ r. ⌜ (r ≡ energyOf own) × (r < 1125899906842624) ⌝ }
+{
+    let heated = (own.start - own.heat) as u64 * own.heater as u64;
+    let held = (own.end - own.start) as u64 * own.draw as u64;
+    heated + held
 }
 
 // What an activity draws between these ticks.

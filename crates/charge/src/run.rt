@@ -8,10 +8,18 @@ ghost use Prim.Native.Nat.{_<_, _≤_};
 ghost use lib.IntN.{pos, negsuc};
 ghost use lib.ListN.{length, getD};
 ghost use lib.Signed.{_≤ℤ_, leZ};
+ghost use Rattle.rules.specs.MeetsB.{smaller};
 ghost use Rattle.charge.specs.Charge.{atTick, drawMore, chargeNext, chargeBy, Drawing, Charges, Ran};
 
 // The most charges of a plan: at each tick, and at the horizon.
 pub const CHARGES: usize = 4097;
+
+// The smaller of two charges.
+pub fn smaller(a: i64, b: i64) -> i64
+    ensures { λ r. ⌜ r ≡ smaller a b ⌝ }
+{
+    if a <= b { a } else { b }
+}
 
 // The charge after a tick: the smaller of the capacity and the charge with the rate added and the draws taken off.
 pub fn step(c: i64, capacity: u32, rate: u32, draw: u64) -> i64
@@ -19,9 +27,7 @@ pub fn step(c: i64, capacity: u32, rate: u32, draw: u64) -> i64
     requires { ⌜ draw < 1099511627776 ⌝ }
     ensures { λ r. ⌜ r ≡ chargeNext capacity rate draw c ⌝ }
 {
-    let next = c + rate as i64 - draw as i64;
-    let top = capacity as i64;
-    if top <= next { top } else { next }
+    smaller(capacity as i64, c + rate as i64 - draw as i64)
 }
 
 // Runs the charge on from tick `from`, with `by` drawn beside the placed, to tick `to` or the first tick under the floor. Answers the tick reached.

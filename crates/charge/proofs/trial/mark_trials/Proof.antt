@@ -4,28 +4,42 @@ use native.Mathlib.Omega.{arith}
 use Prim.Native.Nat.{_-_, _≤_}
 use mathlib.Core.Path.{_≡_, refl, sym, _∙_}
 use lib.ListN.{length}
+use mir.Facts.{toZ-ofZ}
 use Rattle.sets.specs.Table.{Marked}
 use Rattle.sets.proofs.Marking.{none-marked, marked-more, markable-at}
-use Rattle.charge.specs.Charge.{atTick, keptAt}
+use Rattle.charge.specs.Charge.{atTick, keptAt, Charges}
+use Rattle.charge.proofs.Spare.{charges-range}
 use Rattle.charge.proofs.Drawn.{own-within, own-kept}
 use Rattle.charge.proofs.trial.mark_trials.Statement.{statement}
 use Rattle.charge.proofs.trial.mark_trials.Tie as tie
 
 abbrev Inv-loop : tie.InvT-loop
-Inv-loop draws header duration draw warm count by table₀ base trial₀ s₀ table trial s =
+Inv-loop draws header duration draw warm count by table₀ base spare trial₀ s₀ table trial s =
     (s ≤ count) × (length trial ≡ 4097) × Marked (keptAt header (atTick draws) duration draw warm) by s table₀ table
 
 abbrev μ-loop : tie.MeasureT-loop
-μ-loop draws header duration draw warm count by table₀ base trial₀ s₀ table trial s = count - s
+μ-loop draws header duration draw warm count by table₀ base spare trial₀ s₀ table trial s = count - s
 
 abbrev start : tie.At-loop Inv-loop μ-loop → tie.Start Inv-loop μ-loop
-start a = a .before .before .before .before .before .before
+start a = a .before .before .before .before .before .before .before .before
+
+filled : (a : tie.At-loop Inv-loop μ-loop) → Charges (start a .args .header) (atTick (start a .args .draws .now)) (a .before .before .before .before .fill-charges .last .1 .1 .0)
+filled a = a .before .before .before .before .fill-charges .ensures
 
 slice-aggregate-fill-charges : tie.Need-slice-aggregate-fill-charges Inv-loop μ-loop
 slice-aggregate-fill-charges c = refl
 
 fill-charges-requires : tie.Need-fill-charges-requires Inv-loop μ-loop
 fill-charges-requires c κs = (c .before .before .before .pre .0, refl)
+
+slice-aggregate-spare-charge : tie.Need-slice-aggregate-spare-charge Inv-loop μ-loop
+slice-aggregate-spare-charge c = sym (c .before .before .fill-charges .ensures .size)
+
+spare-charge-requires : tie.Need-spare-charge-requires Inv-loop μ-loop
+spare-charge-requires c κs =
+    let f = c .before .before in
+    let s = f .before .before .before .before in
+    (omega (arith, f .fill-charges .ensures .size, s .pre .0 .short), charges-range _ _ _ (s .pre .0 .first) (s .pre .0 .kept) (f .fill-charges .ensures))
 
 loop-holds : tie.Need-loop-holds Inv-loop μ-loop
 loop-holds c = (omega arith, refl, none-marked _ _ _)
@@ -36,7 +50,7 @@ own-draw-requires c κs =
     omega (arith, s .pre .0 .short, s .pre .1)
 
 slice-aggregate-keeps-charge : tie.Need-slice-aggregate-keeps-charge Inv-loop μ-loop
-slice-aggregate-keeps-charge c = sym (c .before .before .before .before .before .fill-charges .ensures .size)
+slice-aggregate-keeps-charge c = sym (filled (c .before .before .before) .size)
 
 slice-aggregate-keeps-charge-2 : tie.Need-slice-aggregate-keeps-charge-2 Inv-loop μ-loop
 slice-aggregate-keeps-charge-2 c = sym (c .before .before .before .before .loop .inv .1)
@@ -47,7 +61,7 @@ keeps-charge-requires c κs =
     let a = o .before .before in
     let s = start a in
     let w = own-within (s .args .header) (a .loop .s) (s .args .duration) _ _ _ (o .own-draw .ensures) in
-    ((s .pre .0, a .before .before .fill-charges .ensures, a .loop .inv .1), omega (arith, s .pre .1, w .0, w .1, w .2))
+    ((s .pre .0, filled a, a .loop .inv .1), (toZ-ofZ (record { sfits = a .before .spare-charge .ok }) ∙ a .before .spare-charge .ensures, omega (arith, s .pre .1, w .0, w .1, w .2)))
 
 raise-requires : tie.Need-raise-requires Inv-loop μ-loop
 raise-requires c κs =
@@ -67,7 +81,7 @@ loop-again c =
     let a = o .before .before in
     let s = start a in (
       omega arith,
-      k .keeps-charge .kept .1 .1 .1 .1 .0 ∙ a .loop .inv .1,
+      k .keeps-charge .kept .1 .1 .1 .1 .1 .0 ∙ a .loop .inv .1,
       marked-more _ _ _ _ _ _ _ (omega (arith, s .pre .2 .long)) (a .loop .inv .2) (c .before .before .raise .ensures)
           (k .keeps-charge .ensures ∙ own-kept _ _ _ _ _ _ (o .own-draw .ensures) _),
     )
@@ -89,6 +103,8 @@ mark-trials-spec =
     μ-loop
     slice-aggregate-fill-charges
     fill-charges-requires
+    slice-aggregate-spare-charge
+    spare-charge-requires
     loop-holds
     own-draw-requires
     slice-aggregate-keeps-charge
