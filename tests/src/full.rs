@@ -5,9 +5,10 @@ use crate::plan::{Activity, Plan};
 use crate::random::Random;
 
 // The kinds, each with what it is.
-pub const KINDS: [(&str, &str); 12] = [
+pub const KINDS: [(&str, &str); 13] = [
     ("ordinary", "a little of everything, as in a real dive"),
     ("draws", "short activities that draw; the charge never stops at the capacity"),
+    ("rising", "the same with a charge that begins at the floor and rises, so that nothing can be spared at tick 0"),
     ("battery", "a battery that is emptied and charged up again and again"),
     ("warm", "every activity warmed up"),
     ("state", "4 needs and 4 sets each, every end inside a candidate of half the horizon"),
@@ -27,6 +28,7 @@ pub fn full(kind: &str) -> Option<Vec<u8>> {
     let mut plan = match kind {
         "ordinary" => ordinary(),
         "draws" => all(amply(), |i| Activity { draw: 3, ..short(i) }),
+        "rising" => all(Plan { first_charge: 0, rate: 1_000, ..amply() }, |i| Activity { draw: 3, ..short(i) }),
         "battery" => battery(),
         "warm" => all(Plan { heater: 7, ..amply() }, |i| Activity { draw: 3, warm: 1, ..short(i) }),
         "state" => all(amply(), |_| state(Activity { draw: 3, ..idle(T / 2) })),
