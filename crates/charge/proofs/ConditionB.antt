@@ -9,19 +9,18 @@ use lib.Dec.{leb, ltb}
 use lib.IntN.{pos, _+ℤ_, _-ℤ_}
 use lib.Signed.{leZ, ltZ}
 use borrow.Author.Tests.{leb-true, ltb-true, ltb-false, le-leb, lt-leb}
-use Rattle.rules.specs.Plan.{Header, Activity, Entry, Schedule, at, end}
+use Rattle.rules.specs.Plan.{Header, Entry, Schedule, end}
 use Rattle.rules.specs.Tests.{each, total}
 use Rattle.rules.specs.Hold.{holds}
 use Rattle.rules.specs.Warmup.{warmup}
-use Rattle.rules.specs.MeetsB.{heats, drawn, smaller, charge, chargeKept, meetsB}
+use Rattle.rules.specs.MeetsB.{heats, drawn, smaller, charge, chargeKept}
 use Rattle.rules.specs.Reading.{outOfReach}
 use Rattle.rules.proofs.Local.{bool-ext}
 use Rattle.activity.specs.View.{headerView}
 use Rattle.activity.specs.declared.Header.{Header as HeaderStruct}
-use Rattle.placed.specs.Tables.{drawAt}
 use Rattle.placed.specs.Held.{TicksAt, AmountsAt, Rows}
 use Rattle.charge.specs.declared.draws.OwnDraw.{OwnDraw}
-use Rattle.charge.specs.Charge.{ownDraw, rowDraw, drawOf, drawnIn, drawWith, chargeNext, chargeBy, keptBy, keptAt}
+use Rattle.charge.specs.Charge.{rowDraw, drawOf, drawnIn, chargeNext, chargeBy, keptBy}
 
 -- ---- by any draws that are the schedule's
 module _ (h : HeaderStruct) (draw : ℕ → ℕ) (placed : Schedule) (is : (t : ℕ) → draw t ≡ drawn (headerView h) placed t) where
@@ -47,7 +46,7 @@ entryDraw h e = record { heat = e .start - warmup h (e .activity) (e .start); st
 heats-from : (s t w : ℕ) → leb (s - w) t ≡ leb s (t + w)
 heats-from s t w = bool-ext _ _ (λ e. let m : s - w ≤ t = leb-true _ _ e in le-leb s (t + w) (omega arith)) (λ e. let m : s ≤ t + w = leb-true _ _ e in le-leb (s - w) t (omega arith))
 
-entry-draws : (h : Header) (e : Entry) (t : ℕ) → drawOf (entryDraw h e) t ≡ cond (holds t e) (e .activity .draw) 0 + cond (heats h t e) (h .heater) 0
+pub entry-draws : (h : Header) (e : Entry) (t : ℕ) → drawOf (entryDraw h e) t ≡ cond (holds t e) (e .activity .draw) 0 + cond (heats h t e) (h .heater) 0
 unfolding drawOf holds heats
 entry-draws h e t = go (ltb t (e .start)) refl
   where
@@ -74,10 +73,3 @@ module _ (h : HeaderStruct) (ticks amounts : List ℕ) where
 
     pub charge-last : chargeBy h (drawnIn h ticks amounts n) (h .horizon) ≡ charge (headerView h) placed (h .horizon)
     charge-last = charge-is h _ placed (drawn-is n placed rows) (h .horizon)
-
-    -- with the candidate, whose amounts are in the row behind them
-    pub charge-meets : (a : Activity) → AmountsAt amounts n a → (s : ℕ) → keptAt h (drawnIn h ticks amounts n) (a .duration) (drawAt amounts n) (a .warm) s ≡ meetsB (headerView h) placed a s
-    unfolding keptAt meetsB drawWith drawn total warmup headerView
-    charge-meets a q s =
-        ap (λ d. keptBy h (drawWith (drawnIn h ticks amounts n) (ownDraw h s (a .duration) d (a .warm)))) (q .draw)
-        ∙ kept-is h (drawWith (drawnIn h ticks amounts n) (ownDraw h s (a .duration) (a .draw) (a .warm))) (at a s ∷ placed) (λ t. omega (arith, drawn-is n placed rows t, entry-draws (headerView h) (at a s) t))

@@ -1,4 +1,4 @@
--- What is drawn in each tick: by one activity, with it added, and by the rows of the tables.
+-- What is drawn in each tick: by one activity, and by the rows of the tables.
 -- Assumes nothing.
 use Prim.Native.Nat.{ℕ, zero, suc, _+_, _*_, _≤_, _<_}
 use mathlib.Core.Path.{_≡_, refl, ap, _∙_}
@@ -8,7 +8,7 @@ use native.Mathlib.Numerals.{add-one}
 use native.Mathlib.Omega.{arith}
 use lib.Dec.{leb, ltb}
 use lib.ListN.{length, getD}
-use borrow.Author.Tests.{ltb-true, ltb-false, le-leb, lt-leb, lt-ltb, le-ltb}
+use borrow.Author.Tests.{ltb-true, ltb-false, le-leb, lt-leb}
 use Rattle.rules.specs.WellFormed.{HeaderFormed}
 use Rattle.activity.specs.View.{headerView}
 use Rattle.activity.specs.declared.Header.{Header as HeaderStruct}
@@ -16,7 +16,7 @@ use Rattle.placed.specs.Bounds.{TicksBounded, AmountsBounded}
 use Rattle.placed.specs.Raised.{Raised}
 use Rattle.placed.proofs.Raising.{cond-most}
 use Rattle.charge.specs.declared.draws.OwnDraw.{OwnDraw}
-use Rattle.charge.specs.Charge.{ownDraw, rowDraw, drawOf, drawnIn, drawMore, drawWith, keptBy, keptAt, Drawing}
+use Rattle.charge.specs.Charge.{rowDraw, drawOf, drawnIn, keptBy, Drawing}
 
 -- raised by the heater's draw, then by its own
 pub raised-own : (o : OwnDraw) (old mid new : List ℕ) → Raised (o .heat) (o .start) (o .heater) old mid → Raised (o .start) (o .end) (o .draw) mid new → (t : ℕ) → getD new t 0 ≡ drawOf o t + getD old t 0
@@ -28,38 +28,6 @@ raised-own o old mid new p q t = go (ltb t (o .start)) refl (leb (o .heat) t) re
     go true e false f = omega (arith, simp (e, f) at (p .at t), simp (lt-leb (o .start) t (ltb-true _ _ e)) at (q .at t))
     go false e true f = omega (arith, simp (e, f) at (p .at t), simp (le-leb (o .start) t (ltb-false _ _ e)) at (q .at t))
     go false e false f = omega (arith, simp (e, f) at (p .at t), simp (le-leb (o .start) t (ltb-false _ _ e)) at (q .at t))
-
--- in the ticks before it draws, while its heater works, while it is held, and after it
-module _ (draw : ℕ → ℕ) (o : OwnDraw) (t : ℕ) where
-  pub draws-before : o .heat ≤ o .start → t < o .heat → draw t ≡ drawWith draw o t
-  unfolding drawOf drawWith
-  draws-before h l = rw (lt-ltb t (o .start) (omega arith), lt-leb (o .heat) t l) (omega arith)
-
-  pub draws-heating : o .heat ≤ t → t < o .start → drawMore draw (o .heater) t ≡ drawWith draw o t
-  unfolding drawOf drawMore drawWith
-  draws-heating h l = rw (lt-ltb t (o .start) l, le-leb (o .heat) t h)
-
-  pub draws-held : o .start ≤ t → t < o .end → drawMore draw (o .draw) t ≡ drawWith draw o t
-  unfolding drawOf drawMore drawWith
-  draws-held h l = rw (le-ltb t (o .start) h, lt-ltb t (o .end) l)
-
-  pub draws-after : o .start ≤ o .end → o .end ≤ t → draw t ≡ drawWith draw o t
-  unfolding drawOf drawWith
-  draws-after h l = rw (le-ltb t (o .start) (omega arith), le-ltb t (o .end) l) (omega arith)
-
--- an activity at a start: its ticks, and the test with it added
-module _ (h : HeaderStruct) (s duration own warm : ℕ) (o : OwnDraw) (e : o ≡ ownDraw h s duration own warm) where
-  pub own-within : (o .heat ≤ o .start) × (o .start ≤ o .end) × (o .end ≡ s + duration)
-  own-within = rw e (omega arith, omega arith, refl)
-
-  pub own-kept : (draw : ℕ → ℕ) → keptBy h (drawWith draw o) ≡ keptAt h draw duration own warm s
-  unfolding keptAt
-  own-kept draw = ap (λ (o : OwnDraw). keptBy h (drawWith draw o)) e
-
--- nothing more is drawn
-pub draws-alone : (draw : ℕ → ℕ) (t : ℕ) → drawMore draw 0 t ≡ draw t
-unfolding drawMore
-draws-alone draw t = omega arith
 
 -- ---- by the rows
 module _ (h : HeaderStruct) (ticks amounts : List ℕ) where

@@ -1,6 +1,5 @@
 pub mod Step
 pub mod Running
-pub mod Trying
-pub mod Spare
+pub mod Kept
 pub mod Drawn
 pub mod ConditionB

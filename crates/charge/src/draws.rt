@@ -2,13 +2,12 @@
 use activity::Header;
 use placed::AMOUNT_CELLS;
 use placed::TICK_CELLS;
-use placed::heater_from;
 use placed::raise_ticks;
 ghost use mathlib.Core.Path.{_≡_};
 ghost use Prim.Native.Nat.{ℕ, _+_, _<_, _≤_};
 ghost use lib.ListN.{length, getD};
 ghost use Rattle.placed.specs.Bounds.{TicksBounded, AmountsBounded};
-ghost use Rattle.charge.specs.Charge.{ownDraw, rowDraw, drawOf, energyOf, drawnIn};
+ghost use Rattle.charge.specs.Charge.{rowDraw, drawOf, drawnIn};
 
 // What one activity draws: the heater's draw from `heat` to before `start`, its own from there to before `end`.
 pub struct OwnDraw {
@@ -17,31 +16,6 @@ pub struct OwnDraw {
     pub end: usize,
     pub draw: u32,
     pub heater: u32,
-}
-
-// What an activity draws at a start.
-pub fn own_draw(header: Header, start: u32, duration: u32, draw: u32, warm: u32) -> OwnDraw
-    requires { ⌜ start + duration ≤ 4096 ⌝ }
-    ensures { λ r. ⌜ r ≡ ownDraw header start duration draw warm ⌝ }
-{
-    let heat = heater_from(header.minute, start, warm);
-    OwnDraw {
-        heat: heat as usize,
-        start: start as usize,
-        end: (start + duration) as usize,
-        draw,
-        heater: header.heater,
-    }
-}
-
-// What one activity draws in all.
-pub fn energy(own: OwnDraw) -> u64
-    requires { ⌜ (own .heat ≤ own .start) × (own .start ≤ own .end) × (own .end ≤ 4096) ⌝ }
-    ensures { λ r. ⌜ (r ≡ energyOf own) × (r < 1125899906842624) ⌝ }
-{
-    let heated = (own.start - own.heat) as u64 * own.heater as u64;
-    let held = (own.end - own.start) as u64 * own.draw as u64;
-    heated + held
 }
 
 // What an activity draws between these ticks.

@@ -1,7 +1,6 @@
-// Condition B: with the candidate added, the charge is at least the floor at each tick and at least the handover charge at the horizon.
-mod draws;
-mod run;
-mod trial;
+// The charge: what is drawn in each tick, the charge run on by it, the last charge of a schedule and refusal 9.
+pub mod draws;
+pub mod run;
 
 use activity::Header;
 use draws::add_placed;
@@ -10,41 +9,14 @@ use placed::TICK_CELLS;
 use rules::TICKS;
 use run::run_through;
 use run::step;
-use trial::mark_trials;
 ghost use mathlib.Core.Path.{_≡_};
 ghost use mathlib.Core.Bool.{true};
-ghost use Prim.Native.Nat.{_+_, _<_, _≤_};
 ghost use lib.IntN.{pos};
 ghost use Rattle.rules.specs.WellFormed.{HeaderFormed};
 ghost use Rattle.rules.specs.Reading.{outOfReach};
 ghost use Rattle.activity.specs.View.{headerView};
-ghost use Rattle.placed.specs.Tables.{drawAt};
 ghost use Rattle.placed.specs.Bounds.{TicksBounded, AmountsBounded};
-ghost use Rattle.sets.specs.Table.{Marked, Markable};
-ghost use Rattle.charge.specs.Charge.{drawnIn, chargeBy, keptBy, keptAt};
-
-// Adds `by` at each of the first `count` starts at which the candidate and the placed keep the charge.
-pub fn mark_charge<'a>(
-    header: Header,
-    ticks: &'a [u16; TICK_CELLS],
-    amounts: &'a [u32; AMOUNT_CELLS],
-    n: usize,
-    duration: u32,
-    warm: u32,
-    count: u32,
-    by: u16,
-    table: &mut [u16],
-)
-    requires { ⌜ (n < 64) × TicksBounded (now ticks) n × AmountsBounded (now amounts) (n + 1) ⌝ }
-    requires { ⌜ HeaderFormed (headerView header) × (keptBy header (drawnIn header (now ticks) (now amounts) n) ≡ true) ⌝ }
-    requires { ⌜ (count + duration ≤ header .horizon + 1) × Markable by count (now table) ⌝ }
-    ensures { λ _. ⌜ Marked (keptAt header (drawnIn header (now (ticks .entry)) (now (amounts .entry)) n) duration (drawAt (now (amounts .entry)) n) warm) by count (now (table .entry)) (now (table .exit)) ⌝ }
-{
-    let mut draws = [0u32; TICKS];
-    add_placed(header, ticks, amounts, n, &mut draws);
-    let draw = amounts[n * 4 + 2];
-    mark_trials(&draws, header, duration, draw, warm, count, by, table);
-}
+ghost use Rattle.charge.specs.Charge.{drawnIn, chargeBy, keptBy};
 
 // The charge at the horizon with the placed alone; it is at least the floor.
 pub fn last_charge<'a>(

@@ -33,8 +33,10 @@ use Rattle.load.specs.Loads.{loadIn, sharing}
 use Rattle.load.proofs.Meets.{units-meet, engines-meet, peaks-meet}
 use Rattle.state.specs.State.{stateMet}
 use Rattle.state.proofs.StateMeets.{state-meets}
-use Rattle.charge.specs.Charge.{drawnIn, keptBy, keptAt}
-use Rattle.charge.proofs.ConditionB.{charge-kept, charge-meets}
+use Rattle.charge.specs.Charge.{drawnIn, keptBy}
+use Rattle.charge.proofs.ConditionB.{charge-kept}
+use Rattle.trial.specs.Trial.{keptAt}
+use Rattle.trial.proofs.ConditionB.{charge-meets}
 use Rattle.conditions.specs.Ended.{readyFrom}
 use Rattle.conditions.specs.Ready.{Beside}
 use Rattle.conditions.proofs.Ended.{ready-is}

@@ -78,7 +78,7 @@ fn mark<'a>(
             table,
         ),
         5 => load::mark_peaks(ticks, amounts, n, duration, header.peak, count, by, table),
-        6 => charge::mark_charge(
+        6 => trial::mark_charge(
             header,
             ticks,
             amounts,

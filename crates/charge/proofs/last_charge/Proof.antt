@@ -14,7 +14,7 @@ use Rattle.rules.proofs.Lists.{zeros}
 use Rattle.activity.specs.View.{headerView}
 use Rattle.charge.specs.Charge.{drawnIn, chargeBy}
 use Rattle.charge.proofs.Drawn.{drawing}
-use Rattle.charge.proofs.Trying.{kept-charge}
+use Rattle.charge.proofs.Kept.{kept-charge}
 use Rattle.charge.proofs.last_charge.Statement.{statement}
 use Rattle.charge.proofs.last_charge.Tie as tie
 

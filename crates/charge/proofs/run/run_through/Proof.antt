@@ -9,7 +9,7 @@ use mir.Facts.{toZ-pos, toZ-ofZ}
 use Rattle.rules.proofs.Signed.{signed}
 use Rattle.charge.specs.Charge.{atTick, chargeNext, chargeBy}
 use Rattle.charge.proofs.Running.{charge-first, charge-next, charge-most}
-use Rattle.charge.proofs.Trying.{kept-charge}
+use Rattle.charge.proofs.Kept.{kept-charge}
 use borrow.Author.Needs.{needs}
 use Rattle.charge.proofs.run.run_through.Statement.{statement}
 use Rattle.charge.proofs.run.run_through.Tie as tie

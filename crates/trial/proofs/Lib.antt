@@ -1,0 +1,5 @@
+pub mod Running
+pub mod Trying
+pub mod Spared
+pub mod Added
+pub mod ConditionB

@@ -1,0 +1,30 @@
+// What can be drawn beside the placed at any time.
+use activity::Header;
+use charge::run::smaller;
+ghost use mathlib.Core.Path.{_≡_};
+ghost use Prim.Native.Nat.{_<_};
+ghost use lib.ListN.{length};
+ghost use Rattle.trial.specs.Trial.{lowestOf, spareOf, InRange};
+
+// The lowest charge of the ticks to the horizon.
+fn lowest_charge(charge: &[i64], horizon: usize) -> i64
+    requires { ⌜ horizon < length (now charge) ⌝ }
+    ensures { λ r. ⌜ r ≡ lowestOf (now (charge .entry)) horizon ⌝ }
+{
+    let mut lowest = charge[0];
+    for t in 0..horizon {
+        lowest = smaller(lowest, charge[t + 1]);
+    }
+    lowest
+}
+
+// What the base can spare: as much as may be drawn beside the placed at any time.
+pub fn spare_charge(header: Header, base: &[i64]) -> i64
+    requires { ⌜ (header .horizon < length (now base)) × InRange header (now base) ⌝ }
+    ensures { λ r. ⌜ r ≡ spareOf header (now (base .entry)) ⌝ }
+{
+    let horizon = header.horizon as usize;
+    let lowest = lowest_charge(base, horizon);
+    let last = base[horizon];
+    smaller(lowest - header.floor as i64, last - header.handover as i64)
+}
