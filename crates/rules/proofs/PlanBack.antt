@@ -1,6 +1,7 @@
 -- The printed form of a well-formed plan whose handover charge can be reached is accepted as that plan.
 -- Assumes nothing.
 use mathlib.Core.Path.{_≡_, refl, sym, ap, _∙_, subst}
+use mathlib.Core.Bool.{false}
 use mathlib.Core.List.{List, [], _∷_, _++_, map, append-nil, List·Memᴰ, List·Memᴰ·head, List·Memᴰ·tail, Memᴰ·append-right}
 use mathlib.Core.Option.{none}
 use Prim.Native.Nat.{ℕ, suc, _+_, _<_, _≤_}
@@ -64,4 +65,6 @@ left-to-judge p w =
 
 pub read-printed : (p : Plan) → WellFormed p → Reachable p → reading (planText p) ≡ accepted p
 unfolding reading judged outOfReach
-read-printed p w r = rw (le-ltb 60000 (length (planText p)) (plan-length p w), left-to-judge p w, le-ltZ _ _ r)
+read-printed p w r =
+    let reached : outOfReach (p .header) ≡ false = le-ltZ _ _ r in
+    rw (le-ltb 60000 (length (planText p)) (plan-length p w), left-to-judge p w, reached)

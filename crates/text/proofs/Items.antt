@@ -95,8 +95,8 @@ module _ (f : Form) (t : Tally) (p : List ℕ) (ps : List (List ℕ)) (a b : ℕ
     pub list-back : a < t .least → listFrom f t (p ∷ ps) ≡ itemsFrom (kindOf f) (t .outside) true (t .least) (t .count) (take (t .count) (pairs (t .first) (t .second))) ps
     list-back h = from-back (kindOf f) (t .outside) (t .unruly) (t .least) (t .count) _ p ps e in-range (rw g h)
 
-    pub list-turned : cond (f .spans) b a < a → listFrom f t (p ∷ ps) ≡ itemsFrom (kindOf f) (t .outside) true (t .least) (t .count) (take (t .count) (pairs (t .first) (t .second))) ps
-    list-turned h = from-turned (kindOf f) (t .outside) (t .unruly) (t .least) (t .count) _ p ps e in-range (rw g h)
+    pub list-turned : (u : ℕ) → u ≡ cond (f .spans) b a → u < a → listFrom f t (p ∷ ps) ≡ itemsFrom (kindOf f) (t .outside) true (t .least) (t .count) (take (t .count) (pairs (t .first) (t .second))) ps
+    list-turned u q h = from-turned (kindOf f) (t .outside) (t .unruly) (t .least) (t .count) _ p ps e in-range (rw (g, ← q) h)
 
     pub list-full : f .most ≤ t .count → listFrom f t (p ∷ ps) ≡ itemsFrom (kindOf f) (t .outside) true (t .least) (t .count) (take (t .count) (pairs (t .first) (t .second))) ps
     list-full h = from-full (kindOf f) (t .outside) (t .unruly) (t .least) (t .count) _ p ps e in-range h

@@ -54,7 +54,7 @@ loop-less : tie.Need-loop-less Inv-loop μ-loop
 loop-less c = omega arith
 
 loop-again : tie.Need-loop-again Inv-loop μ-loop
-loop-again c = (omega arith, rw first-more (cc))
+loop-again c = (omega arith, rw (first-more, ← c .before .before .before .before .before .loop .inv .1, ← c .before .end-if .ensures) (c .smaller .ensures))
 
 returns : tie.Need-returns Inv-loop μ-loop
 returns c = let e : c .before .before .args .n ≡ c .before .loop .i = omega arith in rw e (c .before .loop .inv .1)

@@ -8,7 +8,7 @@ warmup-at-requires : tie.Need-warmup-at-requires
 warmup-at-requires c κs = search needs
 
 returns : tie.Need-returns
-returns c = cc
+returns c = rw (c .warmup-at .ensures)
 
 pub warmed-spec : {M : Type 1} → statement M
 warmed-spec = tie.close (tie.spec warmup-at-requires returns)

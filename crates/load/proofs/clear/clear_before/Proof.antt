@@ -38,7 +38,7 @@ loop-less c = omega arith
 
 loop-again : tie.Need-loop-again Inv-loop μ-loop
 unfolding fits
-loop-again c = (omega arith, rw since-more (cc))
+loop-again c = (omega arith, rw (since-more, ← c .before .before .before .loop .inv .1) (c .clear-since .ensures))
 
 returns : tie.Need-returns Inv-loop μ-loop
 returns c = let e : c .before .before .before .args .to ≡ c .before .loop .t = omega arith in

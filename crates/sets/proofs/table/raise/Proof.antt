@@ -26,7 +26,7 @@ same-length : tie.Need-same-length
 same-length c = search needs
 
 returns : tie.Need-returns
-returns c = cc
+returns c = rw (c .mark-if .ensures .0)
 
 pub raise-spec : {M : Type 1} → statement M
 raise-spec =

@@ -13,7 +13,7 @@ need-code-at-requires c κs = search needs
 
 returns : tie.Need-returns
 unfolding codeAtEnd
-returns c = simp (sym (c .before .need-code-at .ensures), eq-eqb _ _ (c .if1 .taken))
+returns c = rw (← c .before .need-code-at .ensures, eq-eqb _ _ (c .if1 .taken))
 
 need-variable-at-requires : tie.Need-need-variable-at-requires
 need-variable-at-requires c κs = search needs
@@ -30,7 +30,7 @@ returns-2 : tie.Need-returns-2
 unfolding codeAtEnd
 returns-2 c =
     let v = c .before .before in
-    simp (sym (v .before .before .need-code-at .ensures), ne-eqb _ _ (v .before .if1 .left), sym (v .need-variable-at .ensures), sym (c .before .end-at .ensures), sym (c .standing-at .ensures))
+    rw (← v .before .before .need-code-at .ensures, ne-eqb _ _ (v .before .if1 .left), ← v .need-variable-at .ensures, ← c .before .end-at .ensures, ← c .standing-at .ensures)
 
 pub code-at-end-spec : {M : Type 1} → statement M
 code-at-end-spec =

@@ -36,14 +36,14 @@ unfolding spoilAt
 returns c =
     let a = c .before .before .before in
     let v = a .before .before .before in
-    simp (sym (v .need-variable-at .ensures), sym (a .before .before .set-at .ensures), sym (a .before .need-code-at .ensures), sym (a .can-spoil .ensures) ∙ c .before .before .if1 .taken, sym (c .before .start-at .ensures), sym (c .standing-at .ensures))
+    rw (← v .need-variable-at .ensures, ← a .before .before .set-at .ensures, ← a .before .need-code-at .ensures, sym (a .can-spoil .ensures) ∙ c .before .before .if1 .taken, ← c .before .start-at .ensures, ← c .standing-at .ensures)
 
 returns-2 : tie.Need-returns-2
 unfolding spoilAt
 returns-2 c =
     let a = c .before in
     let v = a .before .before .before in
-    simp (sym (v .need-variable-at .ensures), sym (a .before .before .set-at .ensures), sym (a .before .need-code-at .ensures), sym (a .can-spoil .ensures) ∙ c .if1 .left)
+    rw (← v .need-variable-at .ensures, ← a .before .before .set-at .ensures, ← a .before .need-code-at .ensures, sym (a .can-spoil .ensures) ∙ c .if1 .left)
 
 pub spoil-at-spec : {M : Type 1} → statement M
 spoil-at-spec =

@@ -1,6 +1,6 @@
 -- `list::count_in` meets its contract: each arm is one law.
 -- Assumes nothing.
-use mathlib.Core.Path.{_≡_, sym}
+use mathlib.Core.Path.{_≡_}
 use native.Mathlib.Omega.{arith}
 use lib.ListN.{length}
 use borrow.Author.Needs.{needs}
@@ -27,7 +27,7 @@ upper-requires : tie.Need-upper-requires
 upper-requires c κs = search needs
 
 returns-4 : tie.Need-returns-4
-returns-4 c = (search needs, λ p ps e g. let a = c .before .before .before .before .before .before .before .before .args in list-turned (a .f) (a .t) p ps (a .a) (a .b) e g (omega arith) (omega arith) (rw (sym (c .before .upper .ensures .0)) (c .if4 .taken)))
+returns-4 c = (search needs, λ p ps e g. let a = c .before .before .before .before .before .before .before .before .args in list-turned (a .f) (a .t) p ps (a .a) (a .b) e g (omega arith) (omega arith) _ (c .before .upper .ensures .0) (c .if4 .taken))
 
 returns-5 : tie.Need-returns-5
 returns-5 c = (search needs, λ p ps e g. let a = c .before .before .before .before .before .before .before .before .before .before .args in list-full (a .f) (a .t) p ps (a .a) (a .b) e g (omega arith) (omega arith) (c .if5 .taken))
