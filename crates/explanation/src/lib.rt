@@ -16,17 +16,16 @@ use places::put_places;
 use plan::Plan;
 use refusal::put_refusal;
 use wording::writing::Cursor;
-use wording::writing::put_number;
-use wording::writing::put_word;
+use wording::writing::put_byte;
+use wording::writing::put_word_number;
 
 // Writes the text of an accepted plan, whose lines are those of s.
 fn put_accepted(out: &mut [u8], c: Cursor, s: &[u8], plan: Plan) -> Cursor
     requires { ⌜ Placeable (now s) plan ⌝ }
     ensures { λ r. ⌜ Wrote (acceptedText (planView (now (s .entry)) plan)) c (now (out .entry)) r (now (out .exit)) ⌝ }
 {
-    let mut at = put_word(out, c, b"accepted, activities: ");
-    at = put_number(out, at, plan.count as u64);
-    at = put_word(out, at, b"\n");
+    let mut at = put_word_number(out, c, b"accepted, activities: ", plan.count as u64);
+    at = put_byte(out, at, b'\n');
     put_places(out, at, s, plan)
 }
 

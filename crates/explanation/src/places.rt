@@ -31,8 +31,8 @@ use rules::TICKS;
 use wording::words::put_condition_words;
 use wording::writing::Cursor;
 use wording::writing::put_byte;
-use wording::writing::put_number;
 use wording::writing::put_word;
+use wording::writing::put_word_number;
 
 // Writes a letter and what it asks.
 fn put_letter_line(out: &mut [u8], c: Cursor, condition: u32) -> Cursor
@@ -42,7 +42,7 @@ fn put_letter_line(out: &mut [u8], c: Cursor, condition: u32) -> Cursor
     at = put_byte(out, at, sets::letter(condition));
     at = put_word(out, at, b": ");
     at = put_condition_words(out, at, condition);
-    put_word(out, at, b"\n")
+    put_byte(out, at, b'\n')
 }
 
 // Writes a letter of a refusal, what it asks, and the starts that meet the rest.
@@ -126,7 +126,7 @@ fn put_refused(out: &mut [u8], c: Cursor, table: &[u16; TICKS], count: u32, set:
 {
     let mut at = put_word(out, c, b"refused ");
     at = put_set(out, at, set as u32);
-    at = put_word(out, at, b"\n");
+    at = put_byte(out, at, b'\n');
     put_letters(out, at, table, count, set)
 }
 
@@ -142,11 +142,9 @@ fn put_placed(
     requires { ⌜ count ≤ 4096 ⌝ }
     ensures { λ r. ⌜ ((a : Activity) → a .duration ≡ duration → Wrote (outcomeText (runsIn (now (table .entry)) count) a (Placed start)) c (now (out .entry)) r (now (out .exit))) ⌝ }
 {
-    let mut at = put_word(out, c, b"placed from ");
-    at = put_number(out, at, start as u64);
-    at = put_word(out, at, b" to ");
-    at = put_number(out, at, start as u64 + duration as u64);
-    at = put_word(out, at, b"\n");
+    let mut at = put_word_number(out, c, b"placed from ", start as u64);
+    at = put_word_number(out, at, b" to ", start as u64 + duration as u64);
+    at = put_byte(out, at, b'\n');
     put_runs_line(out, at, b"  valid starts:", table, count, ALL_CONDITIONS)
 }
 
@@ -183,10 +181,8 @@ fn put_place(
 {
     let activity = candidate_at(s, plan, k);
     let count = start_count_at(s, plan, k);
-    let mut at = put_word(out, c, b"place ");
-    at = put_number(out, at, k as u64);
-    at = put_word(out, at, b", activity ");
-    at = put_number(out, at, activity.id as u64);
+    let mut at = put_word_number(out, c, b"place ", k as u64);
+    at = put_word_number(out, at, b", activity ", activity.id as u64);
     at = put_word(out, at, b": ");
     put_answer(out, at, table, count, activity.duration, answer)
 }

@@ -15,8 +15,9 @@ use wording::words::put_field_words;
 use wording::words::put_line_words;
 use wording::words::put_refusal_words;
 use wording::writing::Cursor;
-use wording::writing::put_number;
+use wording::writing::put_byte;
 use wording::writing::put_word;
+use wording::writing::put_word_number;
 use wording::wrong::horizon_in;
 use wording::wrong::wrong_in_act;
 use wording::wrong::wrong_in_plan;
@@ -103,13 +104,11 @@ fn put_line(out: &mut [u8], c: Cursor, n: u32, l: &[u8]) -> Cursor
     ensures { λ r. ⌜ Wrote (lineText n (now (l .entry))) c (now (out .entry)) r (now (out .exit)) ⌝ }
 {
     let count = field_count(without_last(l));
-    let mut at = put_word(out, c, b"line ");
-    at = put_number(out, at, n as u64);
+    let mut at = put_word_number(out, c, b"line ", n as u64);
     at = put_word(out, at, b": ");
     at = put_shown(out, at, l);
-    at = put_word(out, at, b"\nfields: ");
-    at = put_number(out, at, count as u64);
-    put_word(out, at, b"\n")
+    at = put_word_number(out, at, b"\nfields: ", count as u64);
+    put_byte(out, at, b'\n')
 }
 
 // Writes what line n must be.
@@ -118,7 +117,7 @@ fn put_must_be(out: &mut [u8], c: Cursor, n: u32) -> Cursor
 {
     let mut at = put_word(out, c, b"must be: ");
     at = put_line_words(out, at, n);
-    put_word(out, at, b"\n")
+    put_byte(out, at, b'\n')
 }
 
 // Writes field i of line n, for people counted from 1, and what it must be; where i is 0, what the line must be.
@@ -129,26 +128,23 @@ fn put_field(out: &mut [u8], c: Cursor, n: u32, l: &[u8], i: u32) -> Cursor
         return put_must_be(out, c, n);
     }
     let field = field_at(without_last(l), i as usize);
-    let mut at = put_word(out, c, b"field ");
-    at = put_number(out, at, i as u64 + 1);
+    let mut at = put_word_number(out, c, b"field ", i as u64 + 1);
     at = put_word(out, at, b": ");
     at = put_shown(out, at, field);
     at = put_word(out, at, b"\nmust be: ");
     at = put_field_words(out, at, n, i);
-    put_word(out, at, b"\n")
+    put_byte(out, at, b'\n')
 }
 
 // Writes the number and line of a refusal, and the number in words.
 fn put_number_line(out: &mut [u8], c: Cursor, number: u32, line: u32) -> Cursor
     ensures { λ r. ⌜ Wrote (refusalLine number line) c (now (out .entry)) r (now (out .exit)) ⌝ }
 {
-    let mut at = put_word(out, c, b"refused ");
-    at = put_number(out, at, number as u64);
-    at = put_word(out, at, b" at line ");
-    at = put_number(out, at, line as u64);
+    let mut at = put_word_number(out, c, b"refused ", number as u64);
+    at = put_word_number(out, at, b" at line ", line as u64);
     at = put_word(out, at, b": ");
     at = put_refusal_words(out, at, number);
-    put_word(out, at, b"\n")
+    put_byte(out, at, b'\n')
 }
 
 // Writes the text of the file s, which is refused with this number and line.

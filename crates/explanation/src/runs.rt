@@ -6,17 +6,16 @@ ghost use Rattle.wording.specs.Writing.{Wrote};
 use rules::TICKS;
 use schedule::runs::next_start;
 use wording::writing::Cursor;
-use wording::writing::put_number;
+use wording::writing::put_byte;
 use wording::writing::put_word;
+use wording::writing::put_word_number;
 
 // Writes a run of starts.
 fn put_run(out: &mut [u8], c: Cursor, first: u32, last: u32) -> Cursor
     ensures { λ r. ⌜ Wrote (runText (record { first = first; last = last })) c (now (out .entry)) r (now (out .exit)) ⌝ }
 {
-    let a = put_word(out, c, b" ");
-    let b = put_number(out, a, first as u64);
-    let d = put_word(out, b, b"-");
-    put_number(out, d, last as u64)
+    let at = put_word_number(out, c, b" ", first as u64);
+    put_word_number(out, at, b"-", last as u64)
 }
 
 // Writes the runs of starts that meet the set, of the first `count` starts of the table.
@@ -61,5 +60,5 @@ pub fn put_runs_line<'a>(
 {
     let mut at = put_word(out, c, words);
     at = put_runs(out, at, table, count, set);
-    put_word(out, at, b"\n")
+    put_byte(out, at, b'\n')
 }

@@ -13,7 +13,7 @@ use Rattle.rules.specs.Demand.{Demand3}
 use Rattle.rules.specs.declared.Refusal.{Refusal}
 use Rattle.rules.proofs.Demand.{demand3}
 use Rattle.calls.proofs.Running.{too-long, fitting}
-use Rattle.station.specs.Packing.{packed, countIn}
+use Rattle.packing.specs.Packing.{packed, countIn}
 use Rattle.station.specs.Exported.{Exported}
 use Rattle.station.specs.Promise.{Writes, Refuses, Answered, RefusedAs, Promise}
 use Rattle.station.specs.Unpacking.{reportMost, runsMost}

@@ -15,7 +15,7 @@ use Rattle.rules.proofs.Filling.{starts-call-right}
 use Rattle.rules.proofs.Says.{either-way}
 use Rattle.calls.specs.Called.{ColumnsFilled, StartsCalled}
 use Rattle.calls.proofs.Running.{too-long, fitting}
-use Rattle.station.specs.Packing.{packed, writtenIn}
+use Rattle.packing.specs.Packing.{packed, writtenIn}
 use Rattle.station.specs.Exported.{StartsExported}
 use Rattle.station.specs.Unpacking.{runsMost}
 use Rattle.station.specs.Columns.{ColumnsHeld, filled}

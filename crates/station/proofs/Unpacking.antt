@@ -1,6 +1,6 @@
 -- Unpacking gives every answer of the calls back, by the sizes of what it can hold.
 -- Assumes nothing.
-use Prim.Native.Nat.{ℕ, _^_, _<_, _≤_}
+use Prim.Native.Nat.{ℕ, _<_, _≤_}
 use mathlib.Core.Path.{_≡_, refl, sym, _∙_, ap, subst}
 use mathlib.Core.Logic.{_≢_}
 use mathlib.Core.List.{List, [], _∷_}
@@ -19,57 +19,10 @@ use Rattle.rules.proofs.Accepted.{accepted-formed}
 use Rattle.rules.proofs.Demand.{demand3}
 use Rattle.rules.proofs.Says.{either-way}
 use Rattle.calls.proofs.Running.{too-long, fitting}
-use Rattle.station.specs.Packing.{packedValues, packed, valueIn, refusalIn, lineIn, placedIn, startIn, conditionsIn, writtenIn, outcomeIn, countIn}
+use Rattle.packing.specs.Packing.{packed, lineIn, startIn, conditionsIn, writtenIn, outcomeIn, countIn}
+use Rattle.packing.proofs.Parts.{refusal-refusal, refusal-value, refusal-bits, outcome-refusal, outcome-value, outcome-mark, outcome-bits, count-refusal, count-value, count-bits, no-mark}
 use Rattle.station.specs.Unpacking.{reportMost, runsMost, OutcomeUnpacked, CountUnpacked, Unpacking}
 use Rattle.station.proofs.Sizes.{refusal-small, AnswersAs, refuses, fills, report-as, starts-as}
-
--- ---- the parts of a refusal, of an outcome, of a count
-module _ (k n : ℕ) (h : k < 256) (l : n < 4294967296) where
-  refusal-refusal : refusalIn (packed (refusal k n)) ≡ k
-  unfolding refusalIn packed packedValues
-  refusal-refusal = omega arith
-
-  refusal-value : valueIn (packed (refusal k n)) ≡ n
-  unfolding valueIn packed packedValues
-  refusal-value = omega arith
-
-  refusal-bits : packed (refusal k n) < 2 ^ 40
-  unfolding packed packedValues
-  refusal-bits = omega arith
-
-module _ (placed v : ℕ) (h : placed ≤ 1) (l : v < 4294967296) where
-  outcome-refusal : refusalIn (packed (full (placed ∷ v ∷ []))) ≡ 0
-  unfolding refusalIn packed packedValues
-  outcome-refusal = omega arith
-
-  outcome-value : valueIn (packed (full (placed ∷ v ∷ []))) ≡ v
-  unfolding valueIn packed packedValues
-  outcome-value = omega arith
-
-  outcome-mark : placedIn (packed (full (placed ∷ v ∷ []))) ≡ placed
-  unfolding placedIn packed packedValues
-  outcome-mark = omega arith
-
-  outcome-bits : packed (full (placed ∷ v ∷ [])) < 2 ^ 41
-  unfolding packed packedValues
-  outcome-bits = omega arith
-
-module _ (n : ℕ) (l : n < 4294967296) where
-  count-refusal : refusalIn (packed (full (n ∷ []))) ≡ 0
-  unfolding refusalIn packed packedValues
-  count-refusal = omega arith
-
-  count-value : valueIn (packed (full (n ∷ []))) ≡ n
-  unfolding valueIn packed packedValues
-  count-value = omega arith
-
-  count-bits : packed (full (n ∷ [])) < 2 ^ 40
-  unfolding packed packedValues
-  count-bits = omega arith
-
-no-mark : (x : ℕ) → x < 2 ^ 40 → placedIn x ≡ 0
-unfolding placedIn
-no-mark x h = omega arith
 
 -- ---- an answer unpacked
 refusal-outcome : (k n : ℕ) → 1 ≤ k → k < 256 → n < 4294967296 → OutcomeUnpacked (refusal k n) (packed (refusal k n))

@@ -5,7 +5,7 @@ use mathlib.Core.List.{List, map}
 use lib.ListN.{length, getD, set, take}
 use Rattle.rules.specs.Calls.{Filled}
 use Rattle.rules.specs.declared.Interval.{Interval}
-use Rattle.station.specs.Packing.{packed}
+use Rattle.packing.specs.Packing.{packed}
 
 -- a call answers r, and the columns begin with the firsts and the lasts of its runs
 pub record ColumnsHeld (f : Filled Interval) (r : ℕ) (firsts lasts : List ℕ) : Type 0 where

@@ -5,7 +5,7 @@ use mathlib.Core.List.{List}
 use lib.ListN.{length}
 use Rattle.rules.specs.Calls.{Filled, sliceAfter, outcomeCall, reportCall, startsCall}
 use Rattle.rules.specs.declared.Interval.{Interval}
-use Rattle.station.specs.Packing.{packed}
+use Rattle.packing.specs.Packing.{packed}
 
 -- outcome at place k answers r
 abbrev pub OutcomeExported : List ℕ → ℕ → ℕ → Type 0

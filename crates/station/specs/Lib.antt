@@ -1,5 +1,4 @@
 pub mod Version
-pub mod Packing
 pub mod Exported
 pub mod Unpacking
 pub mod Promise

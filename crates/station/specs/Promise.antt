@@ -11,7 +11,7 @@ use Rattle.rules.specs.Demand.{reportBy, RunsBy, RightAnswers}
 use Rattle.rules.specs.declared.Outcome.{Outcome}
 use Rattle.rules.specs.declared.Refusal.{Refusal}
 use Rattle.rules.specs.declared.Interval.{Interval}
-use Rattle.station.specs.Packing.{outcomeIn, countIn}
+use Rattle.packing.specs.Packing.{outcomeIn, countIn}
 use Rattle.station.specs.Exported.{OutcomeExported, Exported}
 
 -- a call that fills a slice with xs answers their count and writes them, and what stands behind remains; a slice too short for them is refused with 10 and remains

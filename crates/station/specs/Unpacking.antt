@@ -6,7 +6,7 @@ use mathlib.Core.List.{List}
 use lib.ListN.{length}
 use Rattle.rules.specs.Calls.{Terms, Filled, outcomeCall, reportCall, startsCall}
 use Rattle.rules.specs.declared.Interval.{Interval}
-use Rattle.station.specs.Packing.{refusalIn, lineIn, placedIn, writtenIn, outcomeIn, countIn}
+use Rattle.packing.specs.Packing.{refusalIn, lineIn, placedIn, writtenIn, outcomeIn, countIn}
 use Rattle.station.specs.Exported.{OutcomeExported, ReportExported, StartsExported}
 
 -- room enough for every report, in bytes, and for every list of runs: PLANNER_REPORT_MOST, PLANNER_RUNS_MOST

@@ -28,7 +28,7 @@ pub fn columns(
 {
     let held = within_columns(room);
     let answer = calls::starts(plan, place, set, &mut firsts[..held], &mut lasts[..held]);
-    super::packing::pack_count(answer)
+    packing::pack_count(answer)
 }
 
 // Puts the first `count` runs of two columns together, at the front of `out`.

@@ -1,11 +1,10 @@
-// The calls for a station's own software, in C or Rust: each answers with one number (specs/Packing.antt).
+// The calls for a station's own software, in C or Rust: each answers with one number (crate `packing`).
 ghost use mathlib.Core.Path.{_≡_};
 ghost use Rattle.station.specs.Exported.{OutcomeExported, ReportExported, StartsExported};
 ghost use Rattle.station.specs.Version.{version};
 use rules::Interval;
 
 mod intervals;
-mod packing;
 
 const VERSION: u32 = 1;
 

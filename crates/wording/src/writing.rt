@@ -1,5 +1,5 @@
 // A text written piece by piece, of which the lent slice gets the part from a given byte on.
-ghost use mathlib.Core.List.{[], _∷_};
+ghost use mathlib.Core.List.{[], _∷_, _++_};
 ghost use Rattle.rules.specs.Number.{decimal};
 ghost use Rattle.wording.specs.Writing.{Wrote};
 
@@ -45,4 +45,12 @@ pub fn put_number(out: &mut [u8], c: Cursor, x: u64) -> Cursor
     let mut digits = [0u8; 20];
     let n = text::number::put_number(&mut digits, 0, x);
     put_word(out, c, &digits[0..n])
+}
+
+// Writes the bytes of a word and the digits of a number behind them.
+pub fn put_word_number(out: &mut [u8], c: Cursor, word: &[u8], x: u64) -> Cursor
+    ensures { λ r. ⌜ Wrote (now (word .entry) ++ decimal x) c (now (out .entry)) r (now (out .exit)) ⌝ }
+{
+    let next = put_word(out, c, word);
+    put_number(out, next, x)
 }

@@ -7,20 +7,14 @@ use borrow.Author.Needs.{needs}
 use Rattle.explanation.proofs.put_accepted.Statement.{statement}
 use Rattle.explanation.proofs.put_accepted.Tie as tie
 
-slice-aggregate-put-word : tie.Need-slice-aggregate-put-word
-slice-aggregate-put-word c = search needs
+slice-aggregate-put-word-number : tie.Need-slice-aggregate-put-word-number
+slice-aggregate-put-word-number c = search needs
 
-put-word-requires : tie.Need-put-word-requires
-put-word-requires c κs = search needs
+put-word-number-requires : tie.Need-put-word-number-requires
+put-word-number-requires c κs = search needs
 
-put-number-requires : tie.Need-put-number-requires
-put-number-requires c κs = search needs
-
-slice-aggregate-put-word-2 : tie.Need-slice-aggregate-put-word-2
-slice-aggregate-put-word-2 c = search needs
-
-put-word-requires-2 : tie.Need-put-word-requires-2
-put-word-requires-2 c κs = search needs
+put-byte-requires : tie.Need-put-byte-requires
+put-byte-requires c κs = search needs
 
 put-places-requires : tie.Need-put-places-requires
 put-places-requires c κs = search needs
@@ -30,17 +24,15 @@ same-length c = search needs
 
 returns : tie.Need-returns
 unfolding acceptedText
-returns c = rw (place-count _ _ (c .before .before .before .before .before .before .before .before .before .before .before .before .before .before .before .before .before .before .before .before .pre .said)) (wrote-then (c .before .before .before .before .before .before .before .before .before .before .before .before .before .before .before .put-word .ensures) (wrote-then (c .before .before .before .before .before .before .before .before .before .before .before .put-number .ensures) (wrote-then (c .before .before .before .before .before .before .put-word2 .ensures) (wrote-then (c .before .before .put-places .ensures) (wrote-none _ _)))))
+returns c = rw (place-count _ _ (c .before .before .before .before .before .before .before .before .before .before .before .before .before .before .before .pre .said)) (wrote-then (c .before .before .before .before .before .before .before .before .before .before .put-word-number .ensures) (wrote-then (c .before .before .before .before .before .before .put-byte .ensures) (wrote-then (c .before .before .put-places .ensures) (wrote-none _ _))))
 
 pub put-accepted-spec : {M : Type 1} → statement M
 put-accepted-spec =
     tie.close
     (tie.spec
-    slice-aggregate-put-word
-    put-word-requires
-    put-number-requires
-    slice-aggregate-put-word-2
-    put-word-requires-2
+    slice-aggregate-put-word-number
+    put-word-number-requires
+    put-byte-requires
     put-places-requires
     same-length
     returns)

@@ -43,7 +43,7 @@ use denote.Exit.{yes}
 use Rattle.rules.specs.Calls.{startsCall}
 use Rattle.rules.specs.declared.Interval.{Interval}
 use Rattle.rules.proofs.Interval as T
-use Rattle.station.specs.Packing.{writtenIn}
+use Rattle.packing.specs.Packing.{writtenIn}
 use Rattle.station.specs.Exported.{StartsExported}
 use Rattle.station.specs.Columns.{ColumnsHeld, filled}
 use Rattle.station.proofs.StartsExported.{runs-fit, runs-exported}
@@ -52,10 +52,10 @@ use Rattle.station.proofs.intervals.columns as columns
 use Rattle.station.proofs.intervals.columns.Symbol as columns-def
 use Rattle.station.proofs.intervals.columns.Symbol.{name as #columns}
 use Rattle.station.proofs.intervals.columns.Met as columns-thm
-use Rattle.station.proofs.packing.written as written
-use Rattle.station.proofs.packing.written.Symbol as written-def
-use Rattle.station.proofs.packing.written.Symbol.{name as #written}
-use Rattle.station.proofs.packing.written.Met as written-thm
+use Rattle.packing.proofs.written as written
+use Rattle.packing.proofs.written.Symbol as written-def
+use Rattle.packing.proofs.written.Symbol.{name as #written}
+use Rattle.packing.proofs.written.Met as written-thm
 use Rattle.station.proofs.intervals.put_runs as put-runs
 use Rattle.station.proofs.intervals.put_runs.Symbol as put-runs-def
 use Rattle.station.proofs.intervals.put_runs.Symbol.{name as #put-runs}
@@ -268,5 +268,5 @@ planner-starts-spec 𝓤 H 𝓜 𝓖 𝓡 =
     (tables 𝓤 H 𝓜 𝓡 code.env .C) (tables 𝓤 H 𝓜 𝓡 code.env .Λ) #planner-starts code.function (code.unfolded 𝓤 H 𝓜 𝓡)
     (planner-starts-meets 𝓤 H (𝓖 .A) (givenOf 𝓤 H 𝓜 𝓖) (𝓜 .mem) (𝓡 .run) (tablesOf 𝓤 H 𝓜 (tables 𝓤 H 𝓜 𝓡 code.env))
     (cited 𝓤 H (Columns 𝓤 H (𝓖 .A) (𝓜 .mem) (𝓡 .run)) 𝓜 𝓡 code.env #columns columns-def.routine code.calls-station·intervals·columns (columns-thm.met 𝓤 H 𝓜 𝓖 𝓡))
-    (cited 𝓤 H (Written 𝓤 H (𝓖 .A) (𝓜 .mem) (𝓡 .run)) 𝓜 𝓡 code.env #written written-def.routine code.calls-station·packing·written (written-thm.met 𝓤 H 𝓜 𝓖 𝓡))
+    (cited 𝓤 H (Written 𝓤 H (𝓖 .A) (𝓜 .mem) (𝓡 .run)) 𝓜 𝓡 code.env #written written-def.routine code.calls-packing·written (written-thm.met 𝓤 H 𝓜 𝓖 𝓡))
     (cited 𝓤 H (PutRuns 𝓤 H (𝓖 .A) (𝓜 .mem) (𝓡 .run)) 𝓜 𝓡 code.env #put-runs put-runs-def.routine code.calls-station·intervals·put-runs (put-runs-thm.met 𝓤 H 𝓜 𝓖 𝓡)))

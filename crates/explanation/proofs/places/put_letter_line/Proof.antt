@@ -29,18 +29,15 @@ put-word-requires-2 c κs = search needs
 put-condition-words-requires : tie.Need-put-condition-words-requires
 put-condition-words-requires c κs = search needs
 
-slice-aggregate-put-word-3 : tie.Need-slice-aggregate-put-word-3
-slice-aggregate-put-word-3 c = search needs
-
-put-word-requires-3 : tie.Need-put-word-requires-3
-put-word-requires-3 c κs = search needs
+put-byte-requires-2 : tie.Need-put-byte-requires-2
+put-byte-requires-2 c κs = search needs
 
 same-length : tie.Need-same-length
 same-length c = search needs
 
 returns : tie.Need-returns
 unfolding letterLine
-returns c = wrote-then (c .before .before .before .before .before .before .before .before .before .before .before .before .before .before .before .before .before .before .before .before .before .put-word .ensures) (wrote-then (wrote-as (ap (λ x. x ∷ []) (c .before .before .before .before .before .before .before .before .before .before .before .before .before .before .before .before .before .letter .ensures)) (c .before .before .before .before .before .before .before .before .before .before .before .before .before .before .before .before .put-byte .ensures)) (wrote-then (c .before .before .before .before .before .before .before .before .before .before .before .put-word2 .ensures) (wrote-then (c .before .before .before .before .before .before .before .put-condition-words .ensures) (wrote-then (c .before .before .put-word3 .ensures) (wrote-none _ _)))))
+returns c = wrote-then (c .before .before .before .before .before .before .before .before .before .before .before .before .before .before .before .before .before .before .before .before .put-word .ensures) (wrote-then (wrote-as (ap (λ x. x ∷ []) (c .before .before .before .before .before .before .before .before .before .before .before .before .before .before .before .before .letter .ensures)) (c .before .before .before .before .before .before .before .before .before .before .before .before .before .before .before .put-byte .ensures)) (wrote-then (c .before .before .before .before .before .before .before .before .before .before .put-word2 .ensures) (wrote-then (c .before .before .before .before .before .before .put-condition-words .ensures) (wrote-then (c .before .before .put-byte2 .ensures) (wrote-none _ _)))))
 
 pub put-letter-line-spec : {M : Type 1} → statement M
 put-letter-line-spec =
@@ -53,7 +50,6 @@ put-letter-line-spec =
     slice-aggregate-put-word-2
     put-word-requires-2
     put-condition-words-requires
-    slice-aggregate-put-word-3
-    put-word-requires-3
+    put-byte-requires-2
     same-length
     returns)

@@ -2,7 +2,8 @@
 -- Assumes nothing.
 use Prim.Native.Nat.{_+_}
 use mathlib.Core.Path.{sym, ap}
-use native.Mathlib.Omega.{arith}
+use mathlib.Core.List.{_++_}
+use Rattle.rules.specs.Bytes.{bytes}
 use Rattle.rules.specs.Number.{decimal}
 use Rattle.rules.specs.Plan.{end, at}
 use Rattle.explanation.specs.Places.{outcomeText}
@@ -11,59 +12,47 @@ use borrow.Author.Needs.{needs}
 use Rattle.explanation.proofs.places.put_placed.Statement.{statement}
 use Rattle.explanation.proofs.places.put_placed.Tie as tie
 
-slice-aggregate-put-word : tie.Need-slice-aggregate-put-word
-slice-aggregate-put-word c = search needs
+slice-aggregate-put-word-number : tie.Need-slice-aggregate-put-word-number
+slice-aggregate-put-word-number c = search needs
 
-put-word-requires : tie.Need-put-word-requires
-put-word-requires c κs = search needs
+put-word-number-requires : tie.Need-put-word-number-requires
+put-word-number-requires c κs = search needs
 
-put-number-requires : tie.Need-put-number-requires
-put-number-requires c κs = search needs
+slice-aggregate-put-word-number-2 : tie.Need-slice-aggregate-put-word-number-2
+slice-aggregate-put-word-number-2 c = search needs
 
-slice-aggregate-put-word-2 : tie.Need-slice-aggregate-put-word-2
-slice-aggregate-put-word-2 c = search needs
+add-put-word-number : tie.Need-add-put-word-number
+add-put-word-number c = search needs
 
-put-word-requires-2 : tie.Need-put-word-requires-2
-put-word-requires-2 c κs = search needs
+put-word-number-requires-2 : tie.Need-put-word-number-requires-2
+put-word-number-requires-2 c κs = search needs
 
-add-put-number : tie.Need-add-put-number
-add-put-number c = search needs
-
-put-number-requires-2 : tie.Need-put-number-requires-2
-put-number-requires-2 c κs = search needs
-
-slice-aggregate-put-word-3 : tie.Need-slice-aggregate-put-word-3
-slice-aggregate-put-word-3 c = search needs
-
-put-word-requires-3 : tie.Need-put-word-requires-3
-put-word-requires-3 c κs = search needs
+put-byte-requires : tie.Need-put-byte-requires
+put-byte-requires c κs = search needs
 
 slice-aggregate-put-runs-line : tie.Need-slice-aggregate-put-runs-line
 slice-aggregate-put-runs-line c = search needs
 
 put-runs-line-requires : tie.Need-put-runs-line-requires
-put-runs-line-requires c κs = c .before .before .before .before .before .before .before .before .before .before .before .before .before .before .before .before .before .before .before .before .before .before .before .before .before .before .pre
+put-runs-line-requires c κs = c .before .before .before .before .before .before .before .before .before .before .before .before .before .before .before .before .before .pre
 
 same-length : tie.Need-same-length
-same-length c = omega (arith, c .before .before .before .before .before .before .before .before .before .before .before .before .before .before .before .before .before .before .before .before .before .before .before .before .before .put-word .kept, c .before .before .before .before .before .before .before .before .before .before .before .before .before .before .before .before .before .before .before .before .before .put-number .kept, c .before .before .before .before .before .before .before .before .before .before .before .before .before .before .before .before .put-word2 .kept, c .before .before .before .before .before .before .before .before .before .before .before .before .put-number2 .kept, c .before .before .before .before .before .before .before .put-word3 .kept, c .before .before .put-runs-line .kept)
+same-length c = search needs
 
 returns : tie.Need-returns
 unfolding outcomeText
-returns c = λ a e. wrote-then (c .before .before .before .before .before .before .before .before .before .before .before .before .before .before .before .before .before .before .before .before .before .before .before .before .before .put-word .ensures) (wrote-then (c .before .before .before .before .before .before .before .before .before .before .before .before .before .before .before .before .before .before .before .before .before .put-number .ensures) (wrote-then (c .before .before .before .before .before .before .before .before .before .before .before .before .before .before .before .before .put-word2 .ensures) (wrote-then (wrote-as (ap (λ d. decimal (c .before .before .before .before .before .before .before .before .before .before .before .before .before .before .before .before .before .before .before .before .before .before .before .before .before .before .before .before .before .args .start + d)) (sym e)) (c .before .before .before .before .before .before .before .before .before .before .before .before .put-number2 .ensures)) (wrote-then (c .before .before .before .before .before .before .before .put-word3 .ensures) (wrote-then (c .before .before .put-runs-line .ensures) (wrote-none _ _))))))
+returns c = λ a e. wrote-then (c .before .before .before .before .before .before .before .before .before .before .before .before .before .before .before .before .put-word-number .ensures) (wrote-then (wrote-as (ap (λ d. bytes " to " ++ decimal (c .before .before .before .before .before .before .before .before .before .before .before .before .before .before .before .before .before .before .before .before .args .start + d)) (sym e)) (c .before .before .before .before .before .before .before .before .before .before .before .put-word-number2 .ensures)) (wrote-then (c .before .before .before .before .before .before .before .put-byte .ensures) (wrote-then (c .before .before .put-runs-line .ensures) (wrote-none _ _))))
 
 pub put-placed-spec : {M : Type 1} → statement M
 put-placed-spec =
     tie.close
     (tie.spec
-    slice-aggregate-put-word
-    put-word-requires
-    put-number-requires
-    slice-aggregate-put-word-2
-    put-word-requires-2
-    add-put-number
-    put-number-requires-2
-    slice-aggregate-put-word-3
-    put-word-requires-3
+    slice-aggregate-put-word-number
+    put-word-number-requires
+    slice-aggregate-put-word-number-2
+    add-put-word-number
+    put-word-number-requires-2
+    put-byte-requires
     slice-aggregate-put-runs-line
     put-runs-line-requires
     same-length

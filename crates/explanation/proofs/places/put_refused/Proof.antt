@@ -15,11 +15,8 @@ put-word-requires c κs = search needs
 put-set-requires : tie.Need-put-set-requires
 put-set-requires c κs = search needs
 
-slice-aggregate-put-word-2 : tie.Need-slice-aggregate-put-word-2
-slice-aggregate-put-word-2 c = search needs
-
-put-word-requires-2 : tie.Need-put-word-requires-2
-put-word-requires-2 c κs = search needs
+put-byte-requires : tie.Need-put-byte-requires
+put-byte-requires c κs = search needs
 
 put-letters-requires : tie.Need-put-letters-requires
 put-letters-requires c κs = search needs
@@ -29,7 +26,7 @@ same-length c = search needs
 
 returns : tie.Need-returns
 unfolding outcomeText
-returns c = λ a. wrote-then (c .before .before .before .before .before .before .before .before .before .before .before .before .before .before .before .put-word .ensures) (wrote-then (c .before .before .before .before .before .before .before .before .before .before .before .put-set .ensures) (wrote-then (c .before .before .before .before .before .before .put-word2 .ensures) (wrote-then (c .before .before .put-letters .ensures) (wrote-none _ _))))
+returns c = λ a. wrote-then (c .before .before .before .before .before .before .before .before .before .before .before .before .before .before .put-word .ensures) (wrote-then (c .before .before .before .before .before .before .before .before .before .before .put-set .ensures) (wrote-then (c .before .before .before .before .before .before .put-byte .ensures) (wrote-then (c .before .before .put-letters .ensures) (wrote-none _ _))))
 
 pub put-refused-spec : {M : Type 1} → statement M
 put-refused-spec =
@@ -38,8 +35,7 @@ put-refused-spec =
     slice-aggregate-put-word
     put-word-requires
     put-set-requires
-    slice-aggregate-put-word-2
-    put-word-requires-2
+    put-byte-requires
     put-letters-requires
     same-length
     returns)

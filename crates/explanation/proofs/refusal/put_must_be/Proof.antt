@@ -15,18 +15,15 @@ put-word-requires c κs = search needs
 put-line-words-requires : tie.Need-put-line-words-requires
 put-line-words-requires c κs = search needs
 
-slice-aggregate-put-word-2 : tie.Need-slice-aggregate-put-word-2
-slice-aggregate-put-word-2 c = search needs
-
-put-word-requires-2 : tie.Need-put-word-requires-2
-put-word-requires-2 c κs = search needs
+put-byte-requires : tie.Need-put-byte-requires
+put-byte-requires c κs = search needs
 
 same-length : tie.Need-same-length
 same-length c = search needs
 
 returns : tie.Need-returns
 unfolding fieldText
-returns c = wrote-then (c .before .before .before .before .before .before .before .before .before .before .before .put-word .ensures) (wrote-then (c .before .before .before .before .before .before .before .put-line-words .ensures) (wrote-then (c .before .before .put-word2 .ensures) (wrote-none _ _)))
+returns c = wrote-then (c .before .before .before .before .before .before .before .before .before .before .put-word .ensures) (wrote-then (c .before .before .before .before .before .before .put-line-words .ensures) (wrote-then (c .before .before .put-byte .ensures) (wrote-none _ _)))
 
 pub put-must-be-spec : {M : Type 1} → statement M
 put-must-be-spec =
@@ -35,7 +32,6 @@ put-must-be-spec =
     slice-aggregate-put-word
     put-word-requires
     put-line-words-requires
-    slice-aggregate-put-word-2
-    put-word-requires-2
+    put-byte-requires
     same-length
     returns)

@@ -1,11 +1,22 @@
 -- `put_number_line` meets its contract.
 -- Assumes nothing.
-use native.Mathlib.Omega.{arith}
 use Rattle.explanation.specs.Explained.{refusalLine}
 use Rattle.wording.proofs.Pieces.{wrote-none, wrote-then}
 use borrow.Author.Needs.{needs}
 use Rattle.explanation.proofs.refusal.put_number_line.Statement.{statement}
 use Rattle.explanation.proofs.refusal.put_number_line.Tie as tie
+
+slice-aggregate-put-word-number : tie.Need-slice-aggregate-put-word-number
+slice-aggregate-put-word-number c = search needs
+
+put-word-number-requires : tie.Need-put-word-number-requires
+put-word-number-requires c κs = search needs
+
+slice-aggregate-put-word-number-2 : tie.Need-slice-aggregate-put-word-number-2
+slice-aggregate-put-word-number-2 c = search needs
+
+put-word-number-requires-2 : tie.Need-put-word-number-requires-2
+put-word-number-requires-2 c κs = search needs
 
 slice-aggregate-put-word : tie.Need-slice-aggregate-put-word
 slice-aggregate-put-word c = search needs
@@ -13,54 +24,30 @@ slice-aggregate-put-word c = search needs
 put-word-requires : tie.Need-put-word-requires
 put-word-requires c κs = search needs
 
-put-number-requires : tie.Need-put-number-requires
-put-number-requires c κs = search needs
-
-slice-aggregate-put-word-2 : tie.Need-slice-aggregate-put-word-2
-slice-aggregate-put-word-2 c = search needs
-
-put-word-requires-2 : tie.Need-put-word-requires-2
-put-word-requires-2 c κs = search needs
-
-put-number-requires-2 : tie.Need-put-number-requires-2
-put-number-requires-2 c κs = search needs
-
-slice-aggregate-put-word-3 : tie.Need-slice-aggregate-put-word-3
-slice-aggregate-put-word-3 c = search needs
-
-put-word-requires-3 : tie.Need-put-word-requires-3
-put-word-requires-3 c κs = search needs
-
 put-refusal-words-requires : tie.Need-put-refusal-words-requires
 put-refusal-words-requires c κs = search needs
 
-slice-aggregate-put-word-4 : tie.Need-slice-aggregate-put-word-4
-slice-aggregate-put-word-4 c = search needs
-
-put-word-requires-4 : tie.Need-put-word-requires-4
-put-word-requires-4 c κs = search needs
+put-byte-requires : tie.Need-put-byte-requires
+put-byte-requires c κs = search needs
 
 same-length : tie.Need-same-length
-same-length c = omega (arith, c .before .before .before .before .before .before .before .before .before .before .before .before .before .before .before .before .before .before .before .before .before .before .before .before .before .before .before .before .before .put-word .kept, c .before .before .before .before .before .before .before .before .before .before .before .before .before .before .before .before .before .before .before .before .before .before .before .before .before .put-number .kept, c .before .before .before .before .before .before .before .before .before .before .before .before .before .before .before .before .before .before .before .before .put-word2 .kept, c .before .before .before .before .before .before .before .before .before .before .before .before .before .before .before .before .put-number2 .kept, c .before .before .before .before .before .before .before .before .before .before .before .put-word3 .kept, c .before .before .before .before .before .before .before .put-refusal-words .kept, c .before .before .put-word4 .kept)
+same-length c = search needs
 
 returns : tie.Need-returns
 unfolding refusalLine
-returns c = wrote-then (c .before .before .before .before .before .before .before .before .before .before .before .before .before .before .before .before .before .before .before .before .before .before .before .before .before .before .before .before .before .put-word .ensures) (wrote-then (c .before .before .before .before .before .before .before .before .before .before .before .before .before .before .before .before .before .before .before .before .before .before .before .before .before .put-number .ensures) (wrote-then (c .before .before .before .before .before .before .before .before .before .before .before .before .before .before .before .before .before .before .before .before .put-word2 .ensures) (wrote-then (c .before .before .before .before .before .before .before .before .before .before .before .before .before .before .before .before .put-number2 .ensures) (wrote-then (c .before .before .before .before .before .before .before .before .before .before .before .put-word3 .ensures) (wrote-then (c .before .before .before .before .before .before .before .put-refusal-words .ensures) (wrote-then (c .before .before .put-word4 .ensures) (wrote-none _ _)))))))
+returns c = wrote-then (c .before .before .before .before .before .before .before .before .before .before .before .before .before .before .before .before .before .before .before .before .put-word-number .ensures) (wrote-then (c .before .before .before .before .before .before .before .before .before .before .before .before .before .before .before .put-word-number2 .ensures) (wrote-then (c .before .before .before .before .before .before .before .before .before .before .put-word .ensures) (wrote-then (c .before .before .before .before .before .before .put-refusal-words .ensures) (wrote-then (c .before .before .put-byte .ensures) (wrote-none _ _)))))
 
 pub put-number-line-spec : {M : Type 1} → statement M
 put-number-line-spec =
     tie.close
     (tie.spec
+    slice-aggregate-put-word-number
+    put-word-number-requires
+    slice-aggregate-put-word-number-2
+    put-word-number-requires-2
     slice-aggregate-put-word
     put-word-requires
-    put-number-requires
-    slice-aggregate-put-word-2
-    put-word-requires-2
-    put-number-requires-2
-    slice-aggregate-put-word-3
-    put-word-requires-3
     put-refusal-words-requires
-    slice-aggregate-put-word-4
-    put-word-requires-4
+    put-byte-requires
     same-length
     returns)

@@ -12,26 +12,16 @@ put-word-requires c κs = search needs
 put-runs-requires : tie.Need-put-runs-requires
 put-runs-requires c κs = search needs
 
-slice-aggregate-put-word : tie.Need-slice-aggregate-put-word
-slice-aggregate-put-word c = search needs
-
-put-word-requires-2 : tie.Need-put-word-requires-2
-put-word-requires-2 c κs = search needs
+put-byte-requires : tie.Need-put-byte-requires
+put-byte-requires c κs = search needs
 
 same-length : tie.Need-same-length
 same-length c = search needs
 
 returns : tie.Need-returns
 unfolding runsLine
-returns c = wrote-then (c .before .before .before .before .before .before .before .before .before .before .before .put-word .ensures) (wrote-then (c .before .before .before .before .before .before .before .put-runs .ensures) (wrote-then (c .before .before .put-word2 .ensures) (wrote-none _ _)))
+returns c = wrote-then (c .before .before .before .before .before .before .before .before .before .before .put-word .ensures) (wrote-then (c .before .before .before .before .before .before .put-runs .ensures) (wrote-then (c .before .before .put-byte .ensures) (wrote-none _ _)))
 
 pub put-runs-line-spec : {M : Type 1} → statement M
 put-runs-line-spec =
-    tie.close
-    (tie.spec
-    put-word-requires
-    put-runs-requires
-    slice-aggregate-put-word
-    put-word-requires-2
-    same-length
-    returns)
+    tie.close (tie.spec put-word-requires put-runs-requires put-byte-requires same-length returns)

@@ -1,7 +1,7 @@
 // Answers as one number (specs/Packing.antt).
 ghost use mathlib.Core.Path.{_≡_};
 ghost use Rattle.rules.specs.Calls.{outcomeTerms, countTerms, refusal};
-ghost use Rattle.station.specs.Packing.{packed, writtenIn};
+ghost use Rattle.packing.specs.Packing.{packed, writtenIn};
 use rules::CountAnswer;
 use rules::Outcome;
 use rules::OutcomeAnswer;

@@ -3,9 +3,9 @@
 use native.Mathlib.Omega.{arith}
 use borrow.Author.Needs.{needs}
 use Rattle.rules.specs.Calls.{outcomeValues, outcomeTerms}
-use Rattle.station.specs.Packing.{packedValues, packed}
-use Rattle.station.proofs.packing.pack_outcome.Statement.{statement}
-use Rattle.station.proofs.packing.pack_outcome.Tie as tie
+use Rattle.packing.specs.Packing.{packedValues, packed}
+use Rattle.packing.proofs.pack_outcome.Statement.{statement}
+use Rattle.packing.proofs.pack_outcome.Tie as tie
 
 enum-known-answer : tie.Need-enum-known-answer
 enum-known-answer c = search needs

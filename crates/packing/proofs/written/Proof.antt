@@ -4,9 +4,9 @@ use Prim.Native.Nat.{_/_, _%_}
 use mathlib.Core.Path.{_≡_, refl}
 use native.Mathlib.Omega.{arith}
 use borrow.Author.Tests.{eq-eqb, ne-eqb}
-use Rattle.station.specs.Packing.{valueIn, refusalIn, writtenIn}
-use Rattle.station.proofs.packing.written.Statement.{statement}
-use Rattle.station.proofs.packing.written.Tie as tie
+use Rattle.packing.specs.Packing.{valueIn, refusalIn, writtenIn}
+use Rattle.packing.proofs.written.Statement.{statement}
+use Rattle.packing.proofs.written.Tie as tie
 
 returns : tie.Need-returns
 unfolding writtenIn valueIn refusalIn

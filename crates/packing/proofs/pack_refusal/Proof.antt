@@ -1,9 +1,9 @@
 -- `pack_refusal` meets its contract.
 -- Assumes nothing.
 use borrow.Author.Needs.{needs}
-use Rattle.station.specs.Packing.{packedValues, packed}
-use Rattle.station.proofs.packing.pack_refusal.Statement.{statement}
-use Rattle.station.proofs.packing.pack_refusal.Tie as tie
+use Rattle.packing.specs.Packing.{packedValues, packed}
+use Rattle.packing.proofs.pack_refusal.Statement.{statement}
+use Rattle.packing.proofs.pack_refusal.Tie as tie
 
 cast-result : tie.Need-cast-result
 cast-result c = search needs

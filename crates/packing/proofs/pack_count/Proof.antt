@@ -3,9 +3,9 @@
 use native.Mathlib.Omega.{arith}
 use borrow.Author.Needs.{needs}
 use Rattle.rules.specs.Calls.{countTerms}
-use Rattle.station.specs.Packing.{packedValues, packed}
-use Rattle.station.proofs.packing.pack_count.Statement.{statement}
-use Rattle.station.proofs.packing.pack_count.Tie as tie
+use Rattle.packing.specs.Packing.{packedValues, packed}
+use Rattle.packing.proofs.pack_count.Statement.{statement}
+use Rattle.packing.proofs.pack_count.Tie as tie
 
 enum-known-answer : tie.Need-enum-known-answer
 enum-known-answer c = search needs
