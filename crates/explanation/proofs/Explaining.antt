@@ -10,7 +10,8 @@ use Rattle.plan.specs.View.{planView}
 use Rattle.plan.specs.declared.Reading.{Reading as ReadingStruct}
 use Rattle.placing.proofs.Accepted.{ReadAs}
 use Rattle.explanation.specs.Places.{acceptedText}
-use Rattle.explanation.specs.Explained.{refusedText, explainedAs, explained, ExplainCalled}
+use Rattle.refusal.specs.Refused.{refusedText}
+use Rattle.explanation.specs.Explained.{explainedAs, explained, ExplainCalled}
 use Rattle.wording.specs.Writing.{Stands, Wrote}
 use Rattle.wording.specs.declared.writing.Cursor.{Cursor}
 use Rattle.wording.proofs.Pieces.{stands-none, stands-inside}

@@ -1,9 +1,6 @@
 pub mod RunTexts
 pub mod LetterTexts
 pub mod Answered
-pub mod FileLines
-pub mod FieldTexts
 pub mod PlaceTexts
-pub mod Named
 pub mod Explaining
 pub mod Left

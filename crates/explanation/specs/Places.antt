@@ -13,11 +13,7 @@ use Rattle.rules.specs.declared.Interval.{Interval}
 use Rattle.rules.specs.declared.Outcome.{Outcome}
 use Rattle.rules.specs.declared.Outcome.the-variants.{Placed, Refused}
 use Rattle.wording.specs.Words.{conditionWords}
-
--- the pieces one behind the other
-abbrev pub together : List (List ℕ) → List ℕ
-together [] = []
-together (w ∷ ws) = w ++ together ws
+use Rattle.wording.specs.Writing.{together}
 
 -- a run of starts, from its first to its last
 unfoldable pub runText : Interval → List ℕ

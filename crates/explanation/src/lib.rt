@@ -9,7 +9,6 @@ ghost use Rattle.explanation.specs.Explained.{ExplainCalled};
 ghost use Rattle.wording.specs.Writing.{Wrote};
 
 mod places;
-mod refusal;
 mod runs;
 
 use places::put_places;

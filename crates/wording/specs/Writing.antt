@@ -1,10 +1,15 @@
 -- A text that is written piece by piece, of which the lent slice gets the part from a given byte on.
 use Prim.Native.Nat.{ℕ, _-_}
 use mathlib.Core.Path.{_≡_}
-use mathlib.Core.List.{List, _++_}
+use mathlib.Core.List.{List, [], _∷_, _++_}
 use lib.ListN.{length, take, drop}
 use Rattle.rules.specs.Calls.{sliceAfter}
 use Rattle.wording.specs.declared.writing.Cursor.{Cursor}
+
+-- the pieces one behind the other
+abbrev pub together : List (List ℕ) → List ℕ
+together [] = []
+together (w ∷ ws) = w ++ together ws
 
 -- the part of a text from byte `from` on that a slice of `room` bytes holds
 unfoldable pub part : ℕ → ℕ → List ℕ → List ℕ

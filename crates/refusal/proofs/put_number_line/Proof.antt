@@ -1,10 +1,10 @@
 -- `put_number_line` meets its contract.
 -- Assumes nothing.
-use Rattle.explanation.specs.Explained.{refusalLine}
+use Rattle.refusal.specs.Refused.{refusalLine}
 use Rattle.wording.proofs.Pieces.{wrote-none, wrote-then}
 use borrow.Author.Needs.{needs}
-use Rattle.explanation.proofs.refusal.put_number_line.Statement.{statement}
-use Rattle.explanation.proofs.refusal.put_number_line.Tie as tie
+use Rattle.refusal.proofs.put_number_line.Statement.{statement}
+use Rattle.refusal.proofs.put_number_line.Tie as tie
 
 slice-aggregate-put-word-number : tie.Need-slice-aggregate-put-word-number
 slice-aggregate-put-word-number c = search needs

@@ -1,10 +1,10 @@
 -- `without_last` meets its contract.
 -- Assumes nothing.
-use Rattle.explanation.proofs.FieldTexts.{none-of, front-of}
+use Rattle.refusal.proofs.FieldTexts.{none-of, front-of}
 use native.Mathlib.Omega.{arith}
 use borrow.Author.Needs.{needs}
-use Rattle.explanation.proofs.refusal.without_last.Statement.{statement}
-use Rattle.explanation.proofs.refusal.without_last.Tie as tie
+use Rattle.refusal.proofs.without_last.Statement.{statement}
+use Rattle.refusal.proofs.without_last.Tie as tie
 
 sub-result : tie.Need-sub-result
 sub-result c = search needs

@@ -1,11 +1,11 @@
 -- `put_refusal` meets its contract.
 -- Assumes nothing.
 use borrow.Author.Tests.{eq-eqb, ne-eqb}
-use Rattle.explanation.specs.Explained.{refusedLine, refusedText}
+use Rattle.refusal.specs.Refused.{refusedLine, refusedText}
 use Rattle.wording.proofs.Pieces.{wrote-none, wrote-then}
 use borrow.Author.Needs.{needs}
-use Rattle.explanation.proofs.refusal.put_refusal.Statement.{statement}
-use Rattle.explanation.proofs.refusal.put_refusal.Tie as tie
+use Rattle.refusal.proofs.put_refusal.Statement.{statement}
+use Rattle.refusal.proofs.put_refusal.Tie as tie
 
 put-number-line-requires : tie.Need-put-number-line-requires
 put-number-line-requires c κs = search needs

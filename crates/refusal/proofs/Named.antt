@@ -24,8 +24,8 @@ use Rattle.rules.proofs.Says.{Says, said, faulted}
 use Rattle.rules.proofs.FieldFacts.{number-says}
 use Rattle.rules.proofs.KindFacts.{counted, numbers-say, windows-say, settings-say}
 use Rattle.wording.specs.FirstWrong.{isRead, readNumber, planFields, actFields, firstWrong}
-use Rattle.explanation.specs.Explained.{horizonOf, wrongField, fieldOf}
-use Rattle.explanation.specs.Named.{Named}
+use Rattle.refusal.specs.Refused.{horizonOf, wrongField, fieldOf}
+use Rattle.refusal.specs.Named.{Named}
 
 -- a number field is not both right and wrong
 number-apart : {lo hi k : ℕ} {s : List ℕ} → NumberFormed lo hi s → NumberFault lo hi s k → ⊥

@@ -6,12 +6,12 @@ use native.Mathlib.Omega.{arith}
 use lib.ListN.{getD}
 use Rattle.rules.specs.Lines.{splitOn, fields}
 use Rattle.wording.specs.Shown.{shown}
-use Rattle.explanation.specs.Explained.{fieldText}
+use Rattle.refusal.specs.Refused.{fieldText}
 use Rattle.wording.proofs.Pieces.{wrote-none, wrote-then, wrote-as}
-use Rattle.explanation.proofs.FieldTexts.{field-text}
+use Rattle.refusal.proofs.FieldTexts.{field-text}
 use borrow.Author.Needs.{needs}
-use Rattle.explanation.proofs.refusal.put_field.Statement.{statement}
-use Rattle.explanation.proofs.refusal.put_field.Tie as tie
+use Rattle.refusal.proofs.put_field.Statement.{statement}
+use Rattle.refusal.proofs.put_field.Tie as tie
 
 put-must-be-requires : tie.Need-put-must-be-requires
 put-must-be-requires c κs = search needs

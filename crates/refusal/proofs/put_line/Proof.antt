@@ -6,11 +6,11 @@ use lib.ListN.{length}
 use Rattle.rules.specs.Bytes.{bytes}
 use Rattle.rules.specs.Number.{decimal}
 use Rattle.rules.specs.Lines.{splitOn, fields}
-use Rattle.explanation.specs.Explained.{lineText}
+use Rattle.refusal.specs.Refused.{lineText}
 use Rattle.wording.proofs.Pieces.{wrote-none, wrote-then, wrote-as}
 use borrow.Author.Needs.{needs}
-use Rattle.explanation.proofs.refusal.put_line.Statement.{statement}
-use Rattle.explanation.proofs.refusal.put_line.Tie as tie
+use Rattle.refusal.proofs.put_line.Statement.{statement}
+use Rattle.refusal.proofs.put_line.Tie as tie
 
 without-last-requires : tie.Need-without-last-requires
 without-last-requires c κs = search needs

@@ -1,10 +1,10 @@
 -- `field_of` meets its contract.
 -- Assumes nothing.
 use borrow.Author.Tests.{eq-eqb, ne-eqb}
-use Rattle.explanation.specs.Explained.{fieldOf}
+use Rattle.refusal.specs.Refused.{fieldOf}
 use borrow.Author.Needs.{needs}
-use Rattle.explanation.proofs.refusal.field_of.Statement.{statement}
-use Rattle.explanation.proofs.refusal.field_of.Tie as tie
+use Rattle.refusal.proofs.field_of.Statement.{statement}
+use Rattle.refusal.proofs.field_of.Tie as tie
 
 returns : tie.Need-returns
 unfolding fieldOf

@@ -2,10 +2,10 @@
 -- Assumes nothing.
 use borrow.Author.Tests.{eq-eqb, ne-eqb}
 use Rattle.rules.specs.Lines.{fields}
-use Rattle.explanation.specs.Explained.{wrongField}
+use Rattle.refusal.specs.Refused.{wrongField}
 use borrow.Author.Needs.{needs}
-use Rattle.explanation.proofs.refusal.wrong_field.Statement.{statement}
-use Rattle.explanation.proofs.refusal.wrong_field.Tie as tie
+use Rattle.refusal.proofs.wrong_field.Statement.{statement}
+use Rattle.refusal.proofs.wrong_field.Tie as tie
 
 without-last-requires : tie.Need-without-last-requires
 without-last-requires c κs = search needs

@@ -1,10 +1,10 @@
 -- `put_must_be` meets its contract.
 -- Assumes nothing.
-use Rattle.explanation.specs.Explained.{fieldText}
+use Rattle.refusal.specs.Refused.{fieldText}
 use Rattle.wording.proofs.Pieces.{wrote-none, wrote-then}
 use borrow.Author.Needs.{needs}
-use Rattle.explanation.proofs.refusal.put_must_be.Statement.{statement}
-use Rattle.explanation.proofs.refusal.put_must_be.Tie as tie
+use Rattle.refusal.proofs.put_must_be.Statement.{statement}
+use Rattle.refusal.proofs.put_must_be.Tie as tie
 
 slice-aggregate-put-word : tie.Need-slice-aggregate-put-word
 slice-aggregate-put-word c = search needs

@@ -5,9 +5,9 @@ use mathlib.Core.Path.{_≡_, refl, _∙_, ap}
 use native.Mathlib.Omega.{arith}
 use lib.ListN.{length, drop}
 use Rattle.rules.specs.Lines.{lines}
-use Rattle.explanation.proofs.FileLines.{next-begins, no-line-begins}
-use Rattle.explanation.proofs.refusal.line_begin.Statement.{statement}
-use Rattle.explanation.proofs.refusal.line_begin.Tie as tie
+use Rattle.refusal.proofs.FileLines.{next-begins, no-line-begins}
+use Rattle.refusal.proofs.line_begin.Statement.{statement}
+use Rattle.refusal.proofs.line_begin.Tie as tie
 
 abbrev Inv-loop : tie.InvT-loop
 Inv-loop s n at₀ i₀ at i = (1 ≤ i) × (i ≤ n) × (at ≤ length s) × (drop (i - 1) (lines s) ≡ lines (drop at s))

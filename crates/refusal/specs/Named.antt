@@ -8,7 +8,7 @@ use Rattle.rules.specs.Lines.{fields}
 use Rattle.rules.specs.Forms.{FieldsFault, planForms, actForms}
 use Rattle.rules.specs.Faults.{lineAt, Begins}
 use Rattle.wording.specs.FirstWrong.{planFields, actFields, firstWrong}
-use Rattle.explanation.specs.Explained.{horizonOf, fieldOf}
+use Rattle.refusal.specs.Refused.{horizonOf, fieldOf}
 
 pub record Named : Type 0 where
   -- of the fields of a plan's first line

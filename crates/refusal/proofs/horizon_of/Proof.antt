@@ -1,10 +1,10 @@
 -- `horizon_of` meets its contract.
 -- Assumes nothing.
 use Rattle.rules.specs.Lines.{fields}
-use Rattle.explanation.specs.Explained.{horizonOf}
+use Rattle.refusal.specs.Refused.{horizonOf}
 use borrow.Author.Needs.{needs}
-use Rattle.explanation.proofs.refusal.horizon_of.Statement.{statement}
-use Rattle.explanation.proofs.refusal.horizon_of.Tie as tie
+use Rattle.refusal.proofs.horizon_of.Statement.{statement}
+use Rattle.refusal.proofs.horizon_of.Tie as tie
 
 line-of-requires : tie.Need-line-of-requires
 line-of-requires c κs = search needs

@@ -1,10 +1,10 @@
 -- `line_of` meets its contract.
 -- Assumes nothing.
 use native.Mathlib.Omega.{arith}
-use Rattle.explanation.proofs.FileLines.{line-unended, line-ended}
+use Rattle.refusal.proofs.FileLines.{line-unended, line-ended}
 use borrow.Author.Needs.{needs}
-use Rattle.explanation.proofs.refusal.line_of.Statement.{statement}
-use Rattle.explanation.proofs.refusal.line_of.Tie as tie
+use Rattle.refusal.proofs.line_of.Statement.{statement}
+use Rattle.refusal.proofs.line_of.Tie as tie
 
 line-begin-requires : tie.Need-line-begin-requires
 line-begin-requires c κs = search needs

@@ -5,7 +5,7 @@ ghost use Prim.Native.Nat.{_-_, _≤_};
 ghost use lib.ListN.{length, take, drop};
 ghost use Rattle.rules.specs.Lines.{lines};
 ghost use Rattle.rules.specs.Faults.{lineAt};
-ghost use Rattle.explanation.specs.Explained.{horizonOf, wrongField, fieldOf, lineText, fieldText, refusalLine, refusedText};
+ghost use Rattle.refusal.specs.Refused.{horizonOf, wrongField, fieldOf, lineText, fieldText, refusalLine, refusedText};
 ghost use Rattle.wording.specs.Writing.{Wrote};
 use text::field::field_at;
 use text::field::field_count;
