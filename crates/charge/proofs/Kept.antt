@@ -23,7 +23,7 @@ module _ (h : HeaderStruct) (draw : ℕ → ℕ) where
   unfolding keptBy
   handed-over k = and-right (each (λ u. leZ (pos (h .floor)) (chargeBy h draw u)) (suc (h .horizon))) _ k
 
-  -- the last charge is then a natural number
+  -- each charge is then a natural number
   pub kept-charge : keptBy h draw ≡ true → (t : ℕ) → t ≤ h .horizon → pos 0 ≤ℤ chargeBy h draw t
   kept-charge k t l = let f = le-true (pos (h .floor)) (chargeBy h draw t) (kept-at k t l) in omega signed
 

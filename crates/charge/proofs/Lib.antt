@@ -2,4 +2,4 @@ pub mod Step
 pub mod Running
 pub mod Kept
 pub mod Drawn
-pub mod ConditionB
+pub mod Charged

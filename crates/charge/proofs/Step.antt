@@ -50,6 +50,10 @@ next-least capacity rate c l =
     let n = c +ℤ pos rate -ℤ pos 0 in
     cond-by (λ z. pos 0 ≤ℤ z) (leZ (pos capacity) n) (pos capacity) n (λ _. omega signed) (λ _. omega (signed, add-parts c (pos rate), less-parts (c +ℤ pos rate) 0))
 
+-- a number that was cast, taken from a signed one that was read
+pub read-less : (z : ℤ) (n : ℕ) → mag z < 2 ^ 63 → n < 2 ^ 63 → toZ w64 (ofZ w64 z) -ℤ toZ w64 n ≡ z -ℤ pos n
+read-less z n h k = λ i. toZ-ofZ {w = w64} {z = z} (record { sfits = h }) i -ℤ toZ-pos w64 k i
+
 -- a charge less a limit fits
 pub less-fits : (z : ℤ) (capacity n : ℕ) → pos 0 ≤ℤ z → z ≤ℤ pos capacity → capacity < 2 ^ 32 → n < 2 ^ 32 → SFits w64 (z -ℤ pos n)
 less-fits z capacity n l m k j = omega (signed, less-parts z n, size-parts (z -ℤ pos n))

@@ -1,5 +1,5 @@
 -- The charge as the code has it: what is drawn in each tick, the charges that it leaves, and whether they keep to the floor and the handover charge.
-use Prim.Native.Nat.{ℕ, zero, suc, _+_, _-_, _≤_}
+use Prim.Native.Nat.{ℕ, zero, suc, _+_, _≤_}
 use mathlib.Core.Path.{_≡_}
 use mathlib.Core.Bool.{Bool, true, cond, _&&_}
 use mathlib.Core.List.{List}

@@ -34,7 +34,7 @@ use Rattle.load.proofs.Meets.{units-meet, engines-meet, peaks-meet}
 use Rattle.state.specs.State.{stateMet}
 use Rattle.state.proofs.StateMeets.{state-meets}
 use Rattle.charge.specs.Charge.{drawnIn, keptBy}
-use Rattle.charge.proofs.ConditionB.{charge-kept}
+use Rattle.charge.proofs.Charged.{charge-kept}
 use Rattle.trial.specs.Trial.{keptAt}
 use Rattle.trial.proofs.ConditionB.{charge-meets}
 use Rattle.conditions.specs.Ended.{readyFrom}

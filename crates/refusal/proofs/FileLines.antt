@@ -5,11 +5,10 @@ use mathlib.Core.Path.{_≡_, refl, sym, _∙_, ap}
 use mathlib.Core.Bool.{Bool, true, false, cond}
 use mathlib.Core.List.{List, [], _∷_, _++_}
 use native.Mathlib.Nat.{not-suc-le-zero, le-of-suc-le-suc}
-use native.Mathlib.Numerals.{add-one}
 use native.Mathlib.Omega.{arith}
 use lib.Dec.{eqb, ltb}
 use lib.ListN.{length, getD, take, drop, length-drop, drop-of-length-le}
-use lib.Seq.{take-nil, take-all, take-suc, drop-nil, drop-drop, getD-drop}
+use lib.Seq.{take-all, take-suc, drop-nil, drop-drop, getD-drop}
 use borrow.Author.Tests.{eqb-true, ltb-true, ltb-false}
 use Rattle.rules.specs.Lines.{lines}
 use Rattle.rules.specs.Faults.{lineAt}

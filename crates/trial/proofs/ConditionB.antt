@@ -13,7 +13,7 @@ use Rattle.activity.specs.declared.Header.{Header as HeaderStruct}
 use Rattle.placed.specs.Tables.{drawAt}
 use Rattle.placed.specs.Held.{TicksAt, AmountsAt, Rows}
 use Rattle.charge.specs.Charge.{drawnIn, keptBy}
-use Rattle.charge.proofs.ConditionB.{kept-is, entry-draws, drawn-is}
+use Rattle.charge.proofs.Charged.{kept-is, entry-draws, drawn-is}
 use Rattle.trial.specs.Trial.{ownDraw, drawWith, keptAt}
 
 -- with the candidate, whose amounts are in the row behind those placed

@@ -29,7 +29,7 @@ ghost use Rattle.sets.specs.Table.{Marked, Markable};
 ghost use Rattle.charge.specs.Charge.{drawnIn, atTick, keptBy, Drawing};
 ghost use Rattle.trial.specs.Trial.{drawWith, keptAt, Charges, spareOf};
 
-// Whether the charge keeps to the floor and the handover with one activity more: a trial, begun with the base where the activity begins to draw.
+// A trial: whether the charge keeps to the floor and the handover charge with one activity more. It begins with the base where the activity begins to draw.
 fn trial_keeps(draws: &[u32], header: Header, base: &[i64], own: OwnDraw, trial: &mut [i64]) -> bool
     requires { ⌜ Drawing (now draws) header × Charges header (atTick (now draws)) (now base) × (length (now trial) ≡ 4097) ⌝ }
     requires { ⌜ (own .heat ≤ own .start) × (own .start ≤ own .end) × (own .end ≤ header .horizon) ⌝ }
@@ -54,7 +54,7 @@ fn trial_keeps(draws: &[u32], header: Header, base: &[i64], own: OwnDraw, trial:
     false
 }
 
-// Whether the charge keeps to the floor and the handover with one activity more. An activity that draws no more than the base can spare needs no trial.
+// The same for any activity: one that draws no more than the base can spare needs no trial.
 fn keeps_charge(
     draws: &[u32],
     header: Header,
@@ -75,8 +75,8 @@ fn keeps_charge(
     trial_keeps(draws, header, base, own, trial)
 }
 
-// Adds `by` at each of the first `count` starts whose trial keeps the charge.
-fn mark_trials(
+// Adds `by` at each of the first `count` starts at which the charge is kept.
+fn mark_kept(
     draws: &[u32],
     header: Header,
     duration: u32,
@@ -120,5 +120,5 @@ pub fn mark_charge<'a>(
     let mut draws = [0u32; TICKS];
     add_placed(header, ticks, amounts, n, &mut draws);
     let draw = amounts[n * 4 + 2];
-    mark_trials(&draws, header, duration, draw, warm, count, by, table);
+    mark_kept(&draws, header, duration, draw, warm, count, by, table);
 }

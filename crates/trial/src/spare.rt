@@ -1,4 +1,4 @@
-// What can be drawn beside the placed at any time.
+// What the charges with the placed alone can spare.
 use activity::Header;
 use charge::run::smaller;
 ghost use mathlib.Core.Path.{_≡_};
@@ -18,7 +18,7 @@ fn lowest_charge(charge: &[i64], horizon: usize) -> i64
     lowest
 }
 
-// What the base can spare: as much as may be drawn beside the placed at any time.
+// What the base can spare: an activity that draws no more in all keeps the limits, whenever it draws.
 pub fn spare_charge(header: Header, base: &[i64]) -> i64
     requires { ⌜ (header .horizon < length (now base)) × InRange header (now base) ⌝ }
     ensures { λ r. ⌜ r ≡ spareOf header (now (base .entry)) ⌝ }
@@ -26,5 +26,7 @@ pub fn spare_charge(header: Header, base: &[i64]) -> i64
     let horizon = header.horizon as usize;
     let lowest = lowest_charge(base, horizon);
     let last = base[horizon];
-    smaller(lowest - header.floor as i64, last - header.handover as i64)
+    let over_floor = lowest - header.floor as i64;
+    let over_handover = last - header.handover as i64;
+    smaller(over_floor, over_handover)
 }

@@ -12,7 +12,7 @@ use Rattle.rules.proofs.Signed.{signed}
 use Rattle.charge.specs.Charge.{chargeNext, chargeBy}
 use Rattle.charge.proofs.Step.{next-most, next-least}
 use Rattle.charge.proofs.Running.{charge-first, charge-next}
-use Rattle.charge.proofs.ConditionB.{reach-is}
+use Rattle.charge.proofs.Charged.{reach-is}
 use Rattle.charge.proofs.out_of_reach.Statement.{statement}
 use Rattle.charge.proofs.out_of_reach.Tie as tie
 

@@ -1,7 +1,6 @@
 -- `without_last` meets its contract.
 -- Assumes nothing.
 use Rattle.refusal.proofs.FieldTexts.{none-of, front-of}
-use native.Mathlib.Omega.{arith}
 use borrow.Author.Needs.{needs}
 use Rattle.refusal.proofs.without_last.Statement.{statement}
 use Rattle.refusal.proofs.without_last.Tie as tie

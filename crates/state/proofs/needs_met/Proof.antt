@@ -1,7 +1,9 @@
 -- `needs_met` meets its contract.
 -- Assumes nothing.
-use mathlib.Core.Path.{refl, sym, _∙_}
+use Prim.Native.Nat.{_+_}
+use mathlib.Core.Path.{_≡_, refl, sym, _∙_}
 use borrow.Author.Needs.{needs}
+use Rattle.state.specs.Own.{ownMet}
 use Rattle.state.specs.State.{needsMet}
 use Rattle.state.proofs.needs_met.Statement.{statement}
 use Rattle.state.proofs.needs_met.Tie as tie
@@ -24,13 +26,19 @@ cast-placed-needs-met c = search needs
 placed-needs-met-requires : tie.Need-placed-needs-met-requires
 placed-needs-met-requires c κs = search needs
 
+-- the candidate's needs, from its start to its end
+own-met : (c : tie.After-own-needs-met) → c .own-needs-met .result ≡ ownMet (c .before .args .ticks .now) (c .before .args .settings .now) (c .before .args .n) (c .before .args .start) (c .before .args .start + c .before .args .duration)
+own-met c = c .own-needs-met .ensures
+
 returns : tie.Need-returns
 unfolding needsMet
-returns c = rw (sym (c .before .before .own-needs-met .ensures) ∙ c .before .if1 .taken) (c .placed-needs-met .ensures)
+returns c =
+    let o = c .before .before in
+    rw (sym (own-met o) ∙ c .before .if1 .taken) (c .placed-needs-met .ensures)
 
 returns-2 : tie.Need-returns-2
 unfolding needsMet
-returns-2 c = rw (sym (c .before .own-needs-met .ensures) ∙ c .if1 .left) refl
+returns-2 c = rw (sym (own-met (c .before)) ∙ c .if1 .left) refl
 
 pub needs-met-spec : {M : Type 1} → statement M
 needs-met-spec =

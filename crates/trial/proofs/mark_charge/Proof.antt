@@ -32,11 +32,11 @@ mul-draw-2 c = omega arith
 element-copy-out-draw : tie.Need-element-copy-out-draw
 element-copy-out-draw c = omega arith
 
-slice-aggregate-mark-trials : tie.Need-slice-aggregate-mark-trials
-slice-aggregate-mark-trials c = omega arith
+slice-aggregate-mark-kept : tie.Need-slice-aggregate-mark-kept
+slice-aggregate-mark-kept c = omega arith
 
-mark-trials-requires : tie.Need-mark-trials-requires
-mark-trials-requires c κs =
+mark-kept-requires : tie.Need-mark-kept-requires
+mark-kept-requires c κs =
     let a = c .before .before .before .before in
     let p = a .before .before .before .pre in
     (drawing _ _ _ (a .add-placed .ensures) (a .add-placed .kept .1 .1 .1 .1 .0) (p .1 .0 .0) (p .1 .0 .1), p .1 .1 .0, p .1 .1 .1)
@@ -49,7 +49,7 @@ returns c =
     let m = c .before .before in
     let a = m .before .before .before .before .before in
     let s = a .before .before .before .args in
-    same-marked _ _ _ _ _ _ (λ k _ i. keptAt (s .header) (λ t. a .add-placed .ensures t i) (s .duration) (drawAt (s .amounts .now) (s .n)) (s .warm) k) (m .mark-trials .ensures)
+    same-marked _ _ _ _ _ _ (λ k _ i. keptAt (s .header) (λ t. a .add-placed .ensures t i) (s .duration) (drawAt (s .amounts .now) (s .n)) (s .warm) k) (m .mark-kept .ensures)
 
 pub mark-charge-spec : {M : Type 1} → statement M
 mark-charge-spec =
@@ -61,7 +61,7 @@ mark-charge-spec =
     add-draw
     mul-draw-2
     element-copy-out-draw
-    slice-aggregate-mark-trials
-    mark-trials-requires
+    slice-aggregate-mark-kept
+    mark-kept-requires
     same-length
     returns)

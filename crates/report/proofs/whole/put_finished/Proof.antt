@@ -3,7 +3,7 @@
 use mathlib.Core.Path.{sym, _∙_}
 use Rattle.activity.specs.View.{headerView}
 use Rattle.placed.proofs.Rows.{rows-count, rows-map, volumes-are}
-use Rattle.charge.proofs.ConditionB.{charge-kept, charge-last}
+use Rattle.charge.proofs.Charged.{charge-kept, charge-last}
 use Rattle.report.proofs.LineByLine.{end-written}
 use borrow.Author.Needs.{needs}
 use Rattle.report.proofs.whole.put_finished.Statement.{statement}

@@ -1,4 +1,4 @@
--- Condition B over the tables is the definition's, where their rows say the schedule.
+-- The charge over the tables is the definition's, where their rows say the schedule.
 -- Assumes nothing.
 use Prim.Native.Nat.{ℕ, zero, suc, _+_, _-_, _≤_}
 use mathlib.Core.Path.{_≡_, refl, sym, ap, _∙_}

@@ -1,4 +1,4 @@
--- `mark_trials` meets its contract: the starts below s are marked.
+-- `mark_kept` meets its contract: the starts below s are marked.
 -- Assumes nothing.
 use native.Mathlib.Omega.{arith}
 use Prim.Native.Nat.{_-_, _≤_}
@@ -11,8 +11,8 @@ use Rattle.charge.specs.Charge.{atTick}
 use Rattle.trial.specs.Trial.{keptAt, Charges}
 use Rattle.trial.proofs.Spared.{charges-range}
 use Rattle.trial.proofs.Added.{own-within, own-kept}
-use Rattle.trial.proofs.mark_trials.Statement.{statement}
-use Rattle.trial.proofs.mark_trials.Tie as tie
+use Rattle.trial.proofs.mark_kept.Statement.{statement}
+use Rattle.trial.proofs.mark_kept.Tie as tie
 
 abbrev Inv-loop : tie.InvT-loop
 Inv-loop draws header duration draw warm count by table₀ base spare trial₀ s₀ table trial s =
@@ -96,8 +96,8 @@ returns c =
     let e : start a .args .count ≡ a .loop .s = omega arith in
     rw e (a .loop .inv .2)
 
-pub mark-trials-spec : {M : Type 1} → statement M
-mark-trials-spec =
+pub mark-kept-spec : {M : Type 1} → statement M
+mark-kept-spec =
     tie.close
     (tie.spec
     Inv-loop
