@@ -1,4 +1,1 @@
-pub mod Allowed
-pub mod Ended
-pub mod Volumes
 pub mod Picked

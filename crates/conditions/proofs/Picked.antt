@@ -37,9 +37,9 @@ use Rattle.charge.specs.Charge.{drawnIn, keptBy}
 use Rattle.charge.proofs.Charged.{charge-kept}
 use Rattle.trial.specs.Trial.{keptAt}
 use Rattle.trial.proofs.ConditionB.{charge-meets}
-use Rattle.conditions.specs.Ended.{readyFrom}
+use Rattle.direct.specs.Ended.{readyFrom}
 use Rattle.conditions.specs.Ready.{Beside}
-use Rattle.conditions.proofs.Ended.{ready-is}
+use Rattle.direct.proofs.Ended.{ready-is}
 
 -- what condition number k marks is what condition number c does where c is k
 pub picked : (h : Header) (placed : Schedule) (a : Activity) (c k by n : ℕ) (old new : List ℕ) (test : ℕ → Bool) → c < conditionCount → c ≡ k → by ≡ bitOf c → ((s : ℕ) → s < n → test s ≡ meets h placed a k s) → Marked test by n old new → Marked (meets h placed a c) (2 ^ c) n old new

@@ -1,8 +1,4 @@
 // The nine conditions of document 01, tested for every start of a candidate beside the activities placed.
-mod after;
-mod volume;
-mod warmup;
-mod windows;
 
 use activity::Activity;
 use activity::Header;
@@ -55,8 +51,8 @@ fn mark<'a>(
     let predecessors = candidate.after;
     let duration = candidate.duration;
     match c {
-        0 => windows::mark_windows(&from, &to, candidate.window_count, count, by, table),
-        1 => after::mark_after(
+        0 => direct::windows::mark_windows(&from, &to, candidate.window_count, count, by, table),
+        1 => direct::after::mark_after(
             ticks,
             n,
             &predecessors,
@@ -89,8 +85,8 @@ fn mark<'a>(
             by,
             table,
         ),
-        7 => volume::mark_volume(amounts, n, header.volume, count, by, table),
-        8 => warmup::mark_warmup(header.minute, candidate.warm, count, by, table),
+        7 => direct::volume::mark_volume(amounts, n, header.volume, count, by, table),
+        8 => direct::warmup::mark_warmup(header.minute, candidate.warm, count, by, table),
         _ => {}
     }
 }

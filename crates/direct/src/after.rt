@@ -5,7 +5,7 @@ ghost use Prim.Native.Nat.{_≤_, min, max};
 ghost use lib.Dec.{eqb, leb};
 ghost use Rattle.placed.specs.Bounds.{never};
 ghost use Rattle.sets.specs.Table.{Marked, Markable};
-ghost use Rattle.conditions.specs.Ended.{firstEnd, readyFrom};
+ghost use Rattle.direct.specs.Ended.{firstEnd, readyFrom};
 use placed::NEVER;
 use placed::TICK_CELLS;
 use sets::table::mark_from;

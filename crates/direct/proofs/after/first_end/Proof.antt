@@ -3,13 +3,13 @@
 use Prim.Native.Nat.{_-_, _≤_}
 use mathlib.Core.Path.{_≡_, sym}
 use native.Mathlib.Omega.{arith}
-use Rattle.conditions.specs.Ended.{firstEnd}
-use Rattle.conditions.proofs.Ended.{first-more, first-none}
+use Rattle.direct.specs.Ended.{firstEnd}
+use Rattle.direct.proofs.Ended.{first-more, first-none}
 use borrow.Author.Needs.{needs}
-use Rattle.conditions.proofs.after.first_end.Statement.{statement}
-use Rattle.conditions.proofs.after.first_end.Tie as tie
-use Rattle.conditions.proofs.after.end_if.Reads as end-if-reads
-use Rattle.conditions.proofs.after.smaller.Reads as smaller-reads
+use Rattle.direct.proofs.after.first_end.Statement.{statement}
+use Rattle.direct.proofs.after.first_end.Tie as tie
+use Rattle.direct.proofs.after.end_if.Reads as end-if-reads
+use Rattle.direct.proofs.after.smaller.Reads as smaller-reads
 
 abbrev Inv-loop : tie.InvT-loop
 Inv-loop ticks n id first₀ i₀ first i = (i ≤ n) × (first ≡ firstEnd ticks id i)

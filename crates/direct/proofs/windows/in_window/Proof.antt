@@ -8,10 +8,10 @@ use lib.ListN.{getD}
 use borrow.Author.Count.{below-none, below-more}
 use Rattle.activity.specs.View.{windowsView}
 use Rattle.rules.specs.MeetsW.{inside}
-use Rattle.conditions.proofs.Allowed.{window, all-allowed, window-has, window-early, window-late, windows-none}
+use Rattle.direct.proofs.Allowed.{window, all-allowed, window-has, window-early, window-late, windows-none}
 use native.Mathlib.Omega.{arith}
-use Rattle.conditions.proofs.windows.in_window.Statement.{statement}
-use Rattle.conditions.proofs.windows.in_window.Tie as tie
+use Rattle.direct.proofs.windows.in_window.Statement.{statement}
+use Rattle.direct.proofs.windows.in_window.Tie as tie
 
 abbrev Inv-loop : tie.InvT-loop
 Inv-loop from to n s i₀ i = (0 < n) × (i ≤ n) × ((k : ℕ) → k < i → inside s (window (getD from k 0) (getD to k 0)) ≡ false)

@@ -1,8 +1,8 @@
 -- `warmed` meets its contract.
 -- Assumes nothing.
 use borrow.Author.Needs.{needs}
-use Rattle.conditions.proofs.warmup.warmed.Statement.{statement}
-use Rattle.conditions.proofs.warmup.warmed.Tie as tie
+use Rattle.direct.proofs.warmup.warmed.Statement.{statement}
+use Rattle.direct.proofs.warmup.warmed.Tie as tie
 
 warmup-at-requires : tie.Need-warmup-at-requires
 warmup-at-requires c κs = search needs

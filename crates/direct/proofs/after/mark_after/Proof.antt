@@ -1,8 +1,8 @@
 -- `mark_after` meets its contract.
 -- Assumes nothing.
 use borrow.Author.Needs.{needs}
-use Rattle.conditions.proofs.after.mark_after.Statement.{statement}
-use Rattle.conditions.proofs.after.mark_after.Tie as tie
+use Rattle.direct.proofs.after.mark_after.Statement.{statement}
+use Rattle.direct.proofs.after.mark_after.Tie as tie
 
 ready-from-requires : tie.Need-ready-from-requires
 ready-from-requires c κs = search needs

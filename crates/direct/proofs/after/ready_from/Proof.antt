@@ -3,13 +3,13 @@
 use Prim.Native.Nat.{_-_, _≤_, max}
 use mathlib.Core.Path.{_≡_, sym, _∙_}
 use native.Mathlib.Omega.{arith}
-use Rattle.conditions.specs.Ended.{readyFrom}
-use Rattle.conditions.proofs.Ended.{ready-more, ready-none}
+use Rattle.direct.specs.Ended.{readyFrom}
+use Rattle.direct.proofs.Ended.{ready-more, ready-none}
 use borrow.Author.Needs.{needs}
-use Rattle.conditions.proofs.after.ready_from.Statement.{statement}
-use Rattle.conditions.proofs.after.ready_from.Tie as tie
-use Rattle.conditions.proofs.after.first_end.Reads as first-end-reads
-use Rattle.conditions.proofs.after.larger.Reads as larger-reads
+use Rattle.direct.proofs.after.ready_from.Statement.{statement}
+use Rattle.direct.proofs.after.ready_from.Tie as tie
+use Rattle.direct.proofs.after.first_end.Reads as first-end-reads
+use Rattle.direct.proofs.after.larger.Reads as larger-reads
 
 abbrev Inv-loop : tie.InvT-loop
 Inv-loop ticks n after count ready₀ i₀ ready i = (i ≤ count) × (ready ≡ readyFrom ticks n after i)

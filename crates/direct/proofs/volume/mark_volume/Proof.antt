@@ -5,11 +5,11 @@ use Prim.Native.Nat.{ℕ, _+_}
 use lib.Dec.{leb}
 use Rattle.placed.specs.Tables.{volumeAt}
 use Rattle.sets.proofs.Marking.{same-marked}
-use Rattle.conditions.proofs.Volumes.{allowed-from}
+use Rattle.direct.proofs.Volumes.{allowed-from}
 use borrow.Author.Needs.{needs}
-use Rattle.conditions.proofs.volume.mark_volume.Statement.{statement}
-use Rattle.conditions.proofs.volume.mark_volume.Tie as tie
-use Rattle.conditions.proofs.volume.first_allowed.Reads as first-allowed-reads
+use Rattle.direct.proofs.volume.mark_volume.Statement.{statement}
+use Rattle.direct.proofs.volume.mark_volume.Tie as tie
+use Rattle.direct.proofs.volume.first_allowed.Reads as first-allowed-reads
 use Rattle.placed.proofs.total_volume.Reads as total-volume-reads
 use Rattle.sets.proofs.table.mark_from.Reads as mark-from-reads
 

@@ -9,9 +9,9 @@ use Rattle.rules.specs.Warmup.{warmupAt}
 use Rattle.sets.specs.Table.{Marked}
 use Rattle.sets.proofs.Marking.{none-marked, marked-more, markable-at}
 use borrow.Author.Needs.{needs}
-use Rattle.conditions.proofs.warmup.mark_warmup.Statement.{statement}
-use Rattle.conditions.proofs.warmup.mark_warmup.Tie as tie
-use Rattle.conditions.proofs.warmup.warmed.Reads as warmed-reads
+use Rattle.direct.proofs.warmup.mark_warmup.Statement.{statement}
+use Rattle.direct.proofs.warmup.mark_warmup.Tie as tie
+use Rattle.direct.proofs.warmup.warmed.Reads as warmed-reads
 use Rattle.sets.proofs.table.raise.Reads as raise-reads
 
 -- whether the warm-up before a start begins at tick 0 or later

@@ -8,9 +8,9 @@ use Rattle.rules.specs.MeetsW.{allowed}
 use Rattle.activity.specs.View.{windowsView}
 use Rattle.sets.specs.Table.{Marked}
 use Rattle.sets.proofs.Marking.{none-marked, marked-more, markable-at}
-use Rattle.conditions.proofs.windows.mark_windows.Statement.{statement}
-use Rattle.conditions.proofs.windows.mark_windows.Tie as tie
-use Rattle.conditions.proofs.windows.in_window.Reads as in-window-reads
+use Rattle.direct.proofs.windows.mark_windows.Statement.{statement}
+use Rattle.direct.proofs.windows.mark_windows.Tie as tie
+use Rattle.direct.proofs.windows.in_window.Reads as in-window-reads
 use Rattle.sets.proofs.table.raise.Reads as raise-reads
 
 abbrev Inv-loop : tie.InvT-loop

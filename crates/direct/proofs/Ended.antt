@@ -17,7 +17,7 @@ use Rattle.rules.proofs.Lists.{every-more}
 use Rattle.placed.specs.Tables.{idAt, endAt}
 use Rattle.placed.specs.Bounds.{never}
 use Rattle.placed.specs.Held.{TicksAt, Rows}
-use Rattle.conditions.specs.Ended.{firstEnd, readyFrom}
+use Rattle.direct.specs.Ended.{firstEnd, readyFrom}
 
 -- the smaller of two is at most s when one of them is; the larger, when both are
 leb-min : (a b s : ℕ) → leb (min a b) s ≡ (leb a s || leb b s)

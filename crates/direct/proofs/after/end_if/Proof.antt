@@ -1,8 +1,8 @@
 -- `end_if` meets its contract.
 -- Assumes nothing.
 use borrow.Author.Tests.{eq-eqb, ne-eqb}
-use Rattle.conditions.proofs.after.end_if.Statement.{statement}
-use Rattle.conditions.proofs.after.end_if.Tie as tie
+use Rattle.direct.proofs.after.end_if.Statement.{statement}
+use Rattle.direct.proofs.after.end_if.Tie as tie
 
 returns : tie.Need-returns
 returns c = rw (eq-eqb _ _ (c .if1 .taken))

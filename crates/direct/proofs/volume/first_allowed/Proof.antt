@@ -4,8 +4,8 @@ use Prim.Native.Nat.{_+_, _<_, _≤_}
 use native.Mathlib.Omega.{arith}
 use borrow.Author.Tests.{le-leb, lt-leb}
 use borrow.Author.Needs.{needs}
-use Rattle.conditions.proofs.volume.first_allowed.Statement.{statement}
-use Rattle.conditions.proofs.volume.first_allowed.Tie as tie
+use Rattle.direct.proofs.volume.first_allowed.Statement.{statement}
+use Rattle.direct.proofs.volume.first_allowed.Tie as tie
 
 add-if1 : tie.Need-add-if1
 add-if1 c = search needs
