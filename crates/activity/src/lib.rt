@@ -1,7 +1,8 @@
+#![tactic(auto)]
 // A plan's first line and an activity line, as the code holds them (document 01, The plan file).
 
 // The first line's numbers.
-#[derive(Drop)]
+#[derive(Clone, Copy)]
 pub struct Header {
     pub horizon: u32,
     pub minute: u32,
@@ -17,7 +18,7 @@ pub struct Header {
 }
 
 // An activity line. Of each list the first so many entries count; a window, a need and a set are one entry in each of two arrays.
-#[derive(Drop)]
+#[derive(Clone, Copy)]
 pub struct Activity {
     pub id: u32,
     pub priority: u32,

@@ -1,3 +1,4 @@
+#![tactic(auto)]
 // The planner's calls on a plan's bytes (document 01, Calls), for Rattle programs.
 ghost use Rattle.std.specs.Prelude.{◌≡◌, ◌<◌, ◌≤◌, min, length, take};
 ghost use Rattle.rules.specs.Calls.{count_terms, refusal, filling, runs};

@@ -7,7 +7,7 @@ use activity::Header;
 use placed::{AMOUNT_CELLS, TICK_CELLS, raise_ticks};
 
 // What one activity draws: the heater's draw from `heat` to before `start`, its own from there to before `end`.
-#[derive(Drop)]
+#[derive(Clone, Copy)]
 pub struct OwnDraw {
     pub heat: usize,
     pub start: usize,

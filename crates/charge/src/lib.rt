@@ -1,3 +1,4 @@
+#![tactic(auto)]
 // The charge: what is drawn in each tick, the charge run on by it, the last charge of a schedule and refusal 9.
 pub mod draws;
 pub mod run;

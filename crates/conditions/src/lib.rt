@@ -1,3 +1,4 @@
+#![tactic(auto)]
 // The nine conditions of document 01, tested for every start of a candidate beside the activities placed.
 
 ghost use Rattle.std.specs.Prelude.{◌≡◌, ℕ, ◌^◌, ◌<◌, ◌≤◌, length, get_or};

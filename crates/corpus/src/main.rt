@@ -1,3 +1,4 @@
+#![tactic(auto)]
 // Goes through a stored stream of plans and prints the answers of every call (tests/README.md, The corpus).
 // What a call must leave as it was is checked on the way: a line `wrong` says where it is not.
 ghost use Rattle.std.specs.Prelude.{◌≤◌, ◌<◌, length};
@@ -10,7 +11,7 @@ use text::field::{field_at, find};
 use text::number::{Number, read_number};
 
 // The first line of a record: how long the plan is, the places asked (from `first` to before `last`), how many sets.
-#[derive(Drop)]
+#[derive(Clone, Copy)]
 struct Asked {
     length: u64,
     first: u64,

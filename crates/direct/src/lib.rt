@@ -1,3 +1,4 @@
+#![tactic(auto)]
 // Conditions W, D, V and H, which need no walk over ticks.
 pub mod after;
 pub mod volume;

@@ -1,3 +1,4 @@
+#![tactic(auto)]
 // A plan on standard input, what the planner made of it in words on standard output (docs/EXPLAIN.md).
 ghost use Rattle.std.specs.Prelude.{◌≤◌};
 

@@ -1,3 +1,4 @@
+#![tactic(auto)]
 // What a plan file is explained as, for people: of a refused file its line and field, of an accepted plan the starts of
 // each place (docs/EXPLAIN.md).
 ghost use Rattle.std.specs.Prelude.{◌≤◌, length};

@@ -1,8 +1,9 @@
+#![tactic(auto)]
 // Standard input, read whole, for the programs.
 ghost use Rattle.io.specs.Counts.{IsPrefixLen};
 
 // How many bytes of standard input were read, and whether a read failed.
-#[derive(Drop)]
+#[derive(Clone, Copy)]
 pub struct Input {
     pub count: usize,
     pub failed: bool,

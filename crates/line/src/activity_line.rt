@@ -15,7 +15,7 @@ use activity::{Activity, Header};
 use text::list::{Form, ListRead};
 
 // The fields before the lists, and where the next begins.
-#[derive(Drop)]
+#[derive(Clone, Copy)]
 pub struct Times {
     pub fault: u32,
     pub id: u32,
@@ -85,7 +85,7 @@ pub fn settings() -> Form
 }
 
 // An activity line where the fault is 0.
-#[derive(Drop)]
+#[derive(Clone, Copy)]
 pub struct ActivityRead {
     pub fault: u32,
     pub activity: Activity,
@@ -137,7 +137,7 @@ fn with_lists(
 }
 
 // The lists of a line, and where the next field begins.
-#[derive(Drop)]
+#[derive(Clone, Copy)]
 pub struct ListsRead {
     pub fault: u32,
     pub activity: Activity,
@@ -164,7 +164,7 @@ fn read_lists(fault: u32, l: &[u8], at: usize) -> ListsRead
 }
 
 // The fields behind the lists.
-#[derive(Drop)]
+#[derive(Clone, Copy)]
 pub struct Draws {
     pub fault: u32,
     pub engines: u32,

@@ -23,7 +23,7 @@ pub fn formed(l: &[u8], word: &[u8], count: usize) -> bool
 }
 
 // A number field: its value where the fault is 0.
-#[derive(Drop)]
+#[derive(Clone, Copy)]
 pub struct NumberRead {
     pub fault: u32,
     pub value: u32,
@@ -49,7 +49,7 @@ pub fn number_in(s: &[u8], lo: u32, hi: u32) -> NumberRead
 }
 
 // Where a field ends and where the next begins: behind the tab, or at the end of the line.
-#[derive(Drop)]
+#[derive(Clone, Copy)]
 pub struct FieldEnd {
     pub end: usize,
     pub next: usize,
@@ -69,7 +69,7 @@ pub fn field_from(l: &[u8], at: usize) -> FieldEnd
 }
 
 // A number field, its value where the fault is 0, and where the next field begins.
-#[derive(Drop)]
+#[derive(Clone, Copy)]
 pub struct NumberNext {
     pub fault: u32,
     pub value: u32,
@@ -100,7 +100,7 @@ pub fn number_field(fault: u32, l: &[u8], at: usize, lo: u32, hi: u32) -> Number
 }
 
 // A list field, and where the next field begins.
-#[derive(Drop)]
+#[derive(Clone, Copy)]
 pub struct ListNext {
     pub list: ListRead,
     pub next: usize,

@@ -10,7 +10,7 @@ use crate::fields::{field_from, number_field};
 use activity::Header;
 
 // The first line's numbers where the fault is 0.
-#[derive(Drop)]
+#[derive(Clone, Copy)]
 pub struct HeaderRead {
     pub fault: u32,
     pub header: Header,

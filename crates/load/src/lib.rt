@@ -1,3 +1,4 @@
+#![tactic(auto)]
 // U, E and P: the load of the placed in each tick, and the starts from which each tick of the candidate has it within the limit.
 mod clear;
 mod loads;

@@ -23,7 +23,7 @@ pub fn line_of(ids: &[u32], n: usize, id: u32) -> u32
 }
 
 // Where lines begin, and their ids.
-#[derive(Drop)]
+#[derive(Clone, Copy)]
 pub struct Columns {
     pub lines: [u16; PLACES],
     pub ids: [u32; PLACES],

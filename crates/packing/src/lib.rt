@@ -1,3 +1,4 @@
+#![tactic(auto)]
 // Answers as one number (specs/Packing.antt).
 ghost use Rattle.std.specs.Prelude.{◌≡◌};
 ghost use Rattle.rules.specs.Calls.{outcome_terms, count_terms, refusal};

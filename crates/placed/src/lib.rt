@@ -1,3 +1,4 @@
+#![tactic(auto)]
 // What is placed, in four small tables of numbers, a row for each entry by place; the row behind them is the candidate's.
 //     ticks     id, heater's begin, start, end
 //     amounts   engines, peak, draw, volume

@@ -1,3 +1,4 @@
+#![tactic(auto)]
 // The greedy placing, place by place (document 01, Placing and refusing): the answers are kept by place, and the entry of
 // each activity that is placed is put into the tables of what is placed. All of them are lent by the caller.
 mod answers;

@@ -17,7 +17,7 @@ use text::field::find;
 use text::word::ACT;
 
 // The first `count` activity lines, in order, and their ids; where the number is not 0, the refusal's number and line.
-#[derive(Drop)]
+#[derive(Clone, Copy)]
 pub struct Lines {
     pub number: u32,
     pub line: u32,

@@ -1,3 +1,4 @@
+#![tactic(auto)]
 // A plan as the planner holds it, and its reading: what the file says, in the scheduling order, or its one refusal
 // (document 01, The plan file; When the planner says no).
 ghost use Rattle.std.specs.Prelude.{◌≡◌};
@@ -20,7 +21,7 @@ use text::field::find;
 use text::word::PLAN;
 
 // The header, and for each of the first `count` places the byte where its line begins.
-#[derive(Drop)]
+#[derive(Clone, Copy)]
 pub struct Plan {
     pub header: Header,
     pub count: usize,
@@ -28,7 +29,7 @@ pub struct Plan {
 }
 
 // What a file says: its plan where the number is 0, else the number and the line of its refusal.
-#[derive(Drop)]
+#[derive(Clone, Copy)]
 pub struct Reading {
     pub number: u32,
     pub line: u32,

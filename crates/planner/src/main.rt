@@ -1,3 +1,4 @@
+#![tactic(auto)]
 // The planner: a plan on standard input, its report or its `no` line on standard output (document 01, Calls).
 use calls::REPORT;
 use input::read_input;

@@ -1,3 +1,4 @@
+#![tactic(auto)]
 // Reads a stored set of plan files and prints what each says: its refusal, or the plan with its activities by place.
 // Standard input has each file behind a line with its length in bytes.
 ghost use Rattle.std.specs.Prelude.{◌≤◌, ◌<◌, length};

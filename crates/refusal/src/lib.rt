@@ -1,3 +1,4 @@
+#![tactic(auto)]
 // The text of a refused file: its number in words, and its line and field as they are read.
 ghost use Rattle.std.specs.Prelude.{◌≡◌, [], ◌-◌, ◌≤◌, length, take, drop};
 ghost use Rattle.rules.specs.Lines.{lines};

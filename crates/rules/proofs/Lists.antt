@@ -50,6 +50,7 @@ each_front p n r l f =
 -- an element that passes is one that a test over the list finds
 pub any_mem : {A : Type 0} (p : A → Bool) (xs : List A) (x : A) → Memᴰ x xs → p x ≡ true → any_of p xs ≡ true
 unfolding any_of
+any_mem p [] x m e = elim m [ ]
 any_mem p (y ∷ xs) x (Memᴰ.head q) e = or_left _ (ap p (sym q) ∙ e)
 any_mem p (y ∷ xs) x (Memᴰ.tail m) e = or_right (p y) (any_mem p xs x m e)
 

@@ -132,6 +132,7 @@ module _ (s t : ℕ) (k : s ≤ t) where
 
   edge_last : (placed : Schedule) (d : Entry) → Memᴰ d placed → end d ≤ t → end d ≤ edge placed s t
   unfolding edge
+  edge_last [] d m l = elim m [ ]
   edge_last (e ∷ placed) d (Memᴰ.head q) l =
       let same : end d ≡ end e = ap end q in
       rw (le-leb (end e) t (omega arith)) (omega arith)

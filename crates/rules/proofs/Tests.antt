@@ -84,6 +84,7 @@ is_true false t = absurd t
 
 pub every_mem : {A : Type 0} (p : A → Bool) (xs : List A) {x : A} → every p xs ≡ true → Memᴰ x xs → p x ≡ true
 unfolding every
+every_mem p [] e m = elim m [ ]
 every_mem p (y ∷ xs) e (Memᴰ.head q) = ap p q ∙ and_left _ _ e
 every_mem p (y ∷ xs) e (Memᴰ.tail m) = every_mem p xs (and_right (p y) _ e) m
 

@@ -1,3 +1,4 @@
+#![tactic(auto)]
 // The numbers and types that the planner's crates share, the warm-up table, and a search.
 ghost use Rattle.std.specs.Prelude.{◌≡◌, ◌≤◌, eqb, length, take};
 ghost use Rattle.rules.specs.Tests.{any_of};
@@ -15,28 +16,28 @@ pub const CONDITIONS: u32 = 9;
 pub const ALL_CONDITIONS: u16 = 511;
 
 // How an activity is answered: placed with its start, or refused with its set of conditions.
-#[derive(Drop)]
+#[derive(Clone, Copy)]
 pub enum Outcome {
     Placed(u32),
     Refused(u32),
 }
 
 // A refusal's number and line (document 01, When the planner says no).
-#[derive(Drop)]
+#[derive(Clone, Copy)]
 pub struct Refusal {
     pub number: u32,
     pub line: u32,
 }
 
 // What the outcome call answers.
-#[derive(Drop)]
+#[derive(Clone, Copy)]
 pub enum OutcomeAnswer {
     Answer(Outcome),
     No(Refusal),
 }
 
 // What the report and starts calls answer: a count, or a refusal.
-#[derive(Drop)]
+#[derive(Clone, Copy)]
 pub enum CountAnswer {
     Count(usize),
     No(Refusal),
@@ -44,7 +45,7 @@ pub enum CountAnswer {
 
 // A run of starts: its first and its last. It is laid out as in C, for `station`.
 #[repr(C)]
-#[derive(Drop)]
+#[derive(Clone, Copy)]
 pub struct Interval {
     pub first: u32,
     pub last: u32,

@@ -8,7 +8,7 @@ ghost use Rattle.schedule.specs.Found.{option_of, is_valid, to_preferred};
 use rules::ALL_CONDITIONS;
 
 // A start, where there is one.
-#[derive(Drop)]
+#[derive(Clone, Copy)]
 pub enum Found {
     At(u32),
     Nothing,

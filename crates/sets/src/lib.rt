@@ -1,3 +1,4 @@
+#![tactic(auto)]
 // Sets of conditions as numbers (document 01, Calls: "W 1, D 2, U 4, S 8, E 16, P 32, B 64, V 128, H 256, added"), and
 // the table of sets, one for each start of a candidate.
 pub mod table;

@@ -1,3 +1,4 @@
+#![tactic(auto)]
 // Condition S: the needs of the candidate and of the placed, with the candidate's sets added, for each start.
 mod own;
 mod rows;

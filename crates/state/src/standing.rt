@@ -6,7 +6,7 @@ use crate::rows::{end_at, set_at};
 use placed::{SETTING_CELLS, TICK_CELLS};
 
 // The code of a variable's value, and the tick from which it stands.
-#[derive(Drop)]
+#[derive(Clone, Copy)]
 pub struct StandingValue {
     pub since: u16,
     pub code: u16,

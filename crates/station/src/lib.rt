@@ -1,3 +1,4 @@
+#![tactic(auto)]
 // The calls for a station's own software, in C or Rust: each answers with one number (crate `packing`).
 ghost use Rattle.std.specs.Prelude.{◌≡◌};
 ghost use Rattle.station.specs.Exported.{OutcomeExported, ReportExported, StartsExported};

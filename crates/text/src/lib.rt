@@ -1,3 +1,4 @@
+#![tactic(auto)]
 // Text: numbers, fixed words, fields and lists, read from bytes and written to bytes (document 01, The plan file).
 pub mod field;
 pub mod list;

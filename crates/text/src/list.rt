@@ -9,7 +9,7 @@ use crate::number::{Number, read_number};
 use crate::word::is;
 
 // What a text says as an item: its two numbers; an item of one number has it as both.
-#[derive(Drop)]
+#[derive(Clone, Copy)]
 pub enum Item {
     Both(u64, u64),
     Malformed,
@@ -17,7 +17,7 @@ pub enum Item {
 
 // A kind of list: the byte inside an item, or 0 where an item is one number; the greatest first and second number; whether an
 // item spans its first to its second number, so that the next begins behind the second; and how many items there may be.
-#[derive(Drop)]
+#[derive(Clone, Copy)]
 pub struct Form {
     pub mark: u8,
     pub first: u32,
@@ -63,7 +63,7 @@ fn read_item(s: &[u8], mark: u8) -> Item
 
 // What was read of a list: whether a number was out of range, whether the items did not rise or were too many, the least that may
 // follow, and the items.
-#[derive(Drop)]
+#[derive(Clone, Copy)]
 pub struct Tally {
     pub outside: bool,
     pub unruly: bool,
@@ -117,7 +117,7 @@ fn count_in(t: Tally, a: u64, b: u64, f: Form) -> Tally
 }
 
 // A list field: its fault, or where that is 0 the first `count` items.
-#[derive(Drop)]
+#[derive(Clone, Copy)]
 pub struct ListRead {
     pub fault: u32,
     pub count: usize,

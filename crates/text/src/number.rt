@@ -5,7 +5,7 @@ ghost use Rattle.text.specs.Text.{number_of, put};
 ghost use Rattle.text.specs.Cursor.{digits_from};
 
 // What a text says as a number.
-#[derive(Drop)]
+#[derive(Clone, Copy)]
 pub enum Number {
     Value(u64),
     Malformed,

@@ -1,3 +1,4 @@
+#![tactic(auto)]
 // Condition B: with the candidate added, the charge is at least the floor at each tick and at least the handover charge at the horizon. The charge differs from the base, with the placed alone, only from where the candidate begins to draw to where it is the base's again.
 mod own;
 mod run;

@@ -4,7 +4,7 @@ ghost use Rattle.rules.specs.Number.{decimal};
 ghost use Rattle.wording.specs.Writing.{Wrote};
 
 // How many bytes are still passed over, and where in the slice the next one is written.
-#[derive(Drop)]
+#[derive(Clone, Copy)]
 pub struct Cursor {
     pub skip: usize,
     pub to: usize,
