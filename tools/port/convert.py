@@ -137,6 +137,44 @@ def convert_paths(f, text, roots, need, notes):
     return IDENT.sub(sub, text)
 
 
+def as_record(body, fields, notes, new):
+    """The tuple that the body ends in, as a record of the clauses' names."""
+    text = body.rstrip()
+    if not text.endswith(")"):
+        notes.append(f"{new}: no tuple for {fields}")
+        return body
+    depth = 0
+    for i in range(len(text) - 1, -1, -1):
+        if text[i] in ")]}":
+            depth += 1
+        elif text[i] in "([{":
+            depth -= 1
+            if depth == 0:
+                break
+    inner = text[i + 1:-1]
+    before = text[:i].rstrip()
+    if before and not re.search(r"(\bin|=|\n|^)$", before) and not before.endswith("in"):
+        notes.append(f"{new}: no tuple for {fields}")
+        return body
+    parts, depth, cur = [], 0, ""
+    for ch in inner:
+        if ch in "([{":
+            depth += 1
+        if ch in ")]}":
+            depth -= 1
+        if ch == "," and depth == 0:
+            parts.append(cur)
+            cur = ""
+        else:
+            cur += ch
+    if cur.strip():
+        parts.append(cur)
+    if len(parts) != len(fields):
+        notes.append(f"{new}: {len(parts)} parts for {fields}")
+        return body
+    return text[:i] + "record {\n      " + ";\n      ".join(f"{n} = {p.strip()}" for n, p in zip(fields, parts)) + ";\n    }"
+
+
 def run(path, module, f, fn_parts):
     text = open(path).read()
     cs = chunks(text)
@@ -236,6 +274,9 @@ def run(path, module, f, fn_parts):
                     continue
                 roots = {params[0]: ("c", place, place)} if params else {}
                 b = convert_paths(f, b, roots, new, notes)
+                fields = f.data["asked"].get(old)
+                if fields:
+                    b = as_record(b, fields, notes, new)
                 body = f"{new} c ={b}"
             else:
                 notes.append("several clauses: " + name)
