@@ -134,7 +134,20 @@ def convert_paths(f, text, roots, need, notes):
         notes.append(f"no step {step} above {place} for {m.group(0)}")
         return ".".join([var] + segs)
 
-    return IDENT.sub(sub, text)
+    return clause_names(f, IDENT.sub(sub, text))
+
+
+def clause_names(f, text):
+    """A clause by its name where a local stands for a step or for its ensures."""
+    fields = {p[2][1]: f.data["clauses"][i]["fields"] for p, i in f.places.values() if f.data["clauses"][i]}
+    for m in list(re.finditer(r"let ([^\W\d][\w\-'′]*) = [^\W\d][\w\-'′]*\.([\w\-+]+)(\.ensures)? in", text)):
+        names = fields.get(m.group(2))
+        if not names or len(names) < 2:
+            continue
+        begin = r"(?<![\w\-'′.])" + re.escape(m.group(1)) + ("" if m.group(3) else r"\.ensures")
+        rest = re.sub(begin + r"\.(\d+)(?![\w\-])", lambda q: q.group(0)[: -len(q.group(1))] + names[int(q.group(1))] if int(q.group(1)) < len(names) else q.group(0), text[m.end():])
+        text = text[: m.end()] + rest
+    return text
 
 
 def as_record(body, fields, notes, new):
