@@ -144,6 +144,19 @@ def convert_paths(f, text, roots, need, notes):
         for was, now in f.data["args"]:
             if was.startswith(".args "):
                 text = re.sub(rf"(?<![\w\-'′.]){name}{re.escape(was[6:])}(?![\w\-'′])", name + now[6:], text)
+    return clause_names(f, text)
+
+
+def clause_names(f, text):
+    """A clause by its name where a local stands for a step or for its ensures."""
+    fields = {p[2][1]: f.data["clauses"][i]["fields"] for p, i in f.places.values() if f.data["clauses"][i]}
+    for m in list(re.finditer(r"let ([^\W\d][\w\-'′]*) = [^\W\d][\w\-'′]*\.([\w\-+]+)(\.ensures)? in", text)):
+        names = fields.get(m.group(2))
+        if not names or len(names) < 2:
+            continue
+        begin = r"(?<![\w\-'′.])" + re.escape(m.group(1)) + ("" if m.group(3) else r"\.ensures")
+        rest = re.sub(begin + r"\.(\d+)(?![\w\-])", lambda q: q.group(0)[: -len(q.group(1))] + names[int(q.group(1))] if int(q.group(1)) < len(names) else q.group(0), text[m.end():])
+        text = text[: m.end()] + rest
     return text
 
 
