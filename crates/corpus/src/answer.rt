@@ -13,7 +13,7 @@ pub fn put(x: u64) {
 }
 
 // Ends a line.
-pub fn end_line_lem() {
+pub fn end_line() {
     io::write_all(1, b"\n");
 }
 
@@ -21,7 +21,7 @@ pub fn end_line_lem() {
 pub fn wrong(what: &[u8]) {
     io::write_all(1, b"wrong\t");
     io::write_all(1, what);
-    end_line_lem();
+    end_line();
 }
 
 // Writes a refusal.
@@ -77,5 +77,5 @@ pub fn put_outcome(place: usize, answer: OutcomeAnswer) {
         OutcomeAnswer::Answer(outcome) => put_answer(outcome),
         OutcomeAnswer::No(refusal) => put_no(refusal),
     }
-    end_line_lem();
+    end_line();
 }

@@ -80,7 +80,7 @@ fn answer_records(s: &[u8]) {
     while at < s.len() {
         answer::put_word(b"plan");
         answer::put(number);
-        answer::end_line_lem();
+        answer::end_line();
         at = answer_record(s, at);
         number += 1;
     }

@@ -109,7 +109,7 @@ fn answer_no_room(plan: &[u8]) {
     let answer = calls::report(plan, &mut out[..0]);
     answer::put_word(b"report");
     answer::put_count(answer);
-    answer::end_line_lem();
+    answer::end_line();
     check_left(&out);
 }
 

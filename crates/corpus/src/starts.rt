@@ -70,7 +70,7 @@ fn answer_starts(plan: &[u8], place: usize, set: u32) {
     answer::put(set as u64);
     answer::put_count(answer);
     put_runs(&firsts, &lasts, answer::count_of(answer));
-    answer::end_line_lem();
+    answer::end_line();
     check_left(&firsts, &lasts, answer::count_of(answer));
 }
 
@@ -111,7 +111,7 @@ pub fn answer_short(plan: &[u8], place: usize) {
     answer::put_word(b"short");
     answer::put(place as u64);
     answer::put_count(answer);
-    answer::end_line_lem();
+    answer::end_line();
     check_left(&firsts, &lasts, 0);
     check_no_lasts(plan, place, answer::number_of(answer));
     check_no_firsts(plan, place, answer::number_of(answer));
