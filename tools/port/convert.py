@@ -24,6 +24,8 @@ def norm(name):
     for a, b in (("overflow-", ""), ("slice-bounds-", "part-"), ("offset-bounds-", ""), ("array-read", "element-copy-out"),):
         if name.startswith(a):
             name = b + name[len(a):]
+    if name.startswith("nonzero-"):
+        name = name[len("nonzero-"):]
     return name
 
 
@@ -109,6 +111,9 @@ def convert_paths(f, text, roots, need, notes):
             return f"{var}"
         step = segs[0]
         if step in ("args", "ranges", "requires"):
+            for was, now in f.data["args"]:
+                if f".{step} .{segs[1] if len(segs) > 1 else ''}" == was:
+                    segs[:2] = [part.strip().lstrip(".") for part in now.split()]
             return var + "." + ".".join(segs)
         p = place
         while p is not None:
@@ -134,7 +139,12 @@ def convert_paths(f, text, roots, need, notes):
         notes.append(f"no step {step} above {place} for {m.group(0)}")
         return ".".join([var] + segs)
 
-    return clause_names(f, IDENT.sub(sub, text))
+    text = IDENT.sub(sub, text)
+    for name in re.findall(r"let ([^\W\d][\w\-'′]*) = [\w\-'′.]+\.args in", text):
+        for was, now in f.data["args"]:
+            if was.startswith(".args "):
+                text = re.sub(rf"(?<![\w\-'′.]){name}{re.escape(was[6:])}(?![\w\-'′])", name + now[6:], text)
+    return clause_names(f, text)
 
 
 def clause_names(f, text):
@@ -352,6 +362,8 @@ def run(path, module, f, fn_parts):
         open(os.path.join(base, "Invariants.antt"), "w").write(top + "\n" + "\n".join(u) + "\n\n" + body + "\n")
     if answers:
         body = "\n\n".join(answers)
+        # a test of a negated word is a fact on the word now
+        body = re.sub(r"not-(?:true|false) (?:_|\([^()]*\)) ((?:\w+\.)+if-not-[\w\-]+\.(?:true|false))", r"\1", body)
         u = pick(uses, body) + [f"use {mod}.Goals as goal"]
         if place_names:
             u.append(f"use {mod}.Goals.{{{', '.join(sorted(place_names))}}}")
