@@ -300,7 +300,8 @@ def run(path, module, f, fn_parts):
                 fields = f.data["asked"].get(old)
                 if fields:
                     b = as_record(b, fields, notes, new)
-                body = f"{new} c ={b}"
+                more = "".join(" " + p for p in params[2:])
+                body = f"{new} c{more} ={b}"
             else:
                 notes.append("several clauses: " + name)
             com = "".join(p + "\n" for p in parts if p.startswith("--"))
