@@ -1,9 +1,10 @@
 #![tactic(auto)]
-// The input, read whole, for the programs.
+// The input, read whole, and how a program ends that has trouble.
 ghost use Rattle.std.specs.Prelude.{◌≡◌, ◌≤◌, ◌<◌, false, length, take};
 ghost use Rattle.std.specs.Io.KnownBytes.{Consumes, IsAtEnd};
 
-use std::io::Read;
+use std::io::{Eprint, Read};
+use std::process::ExitCode;
 
 // How many bytes of the input were read, and whether a read failed.
 #[derive(Clone, Copy)]
@@ -39,4 +40,10 @@ pub fn read_input<R: Read>(reader: &mut R, buf: &mut [u8]) -> Input
         count: at,
         failed: false,
     }
+}
+
+// Says on standard error what the trouble is, and answers the status to end with.
+pub fn trouble(rt: &impl Eprint, what: &str) -> ExitCode {
+    let _ = rt.eprintln(what);
+    ExitCode::FAILURE
 }
