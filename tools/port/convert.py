@@ -24,6 +24,8 @@ def norm(name):
     for a, b in (("overflow-", ""), ("slice-bounds-", "part-"), ("offset-bounds-", ""), ("array-read", "element-copy-out"),):
         if name.startswith(a):
             name = b + name[len(a):]
+    if name.startswith("nonzero-"):
+        name = name[len("nonzero-"):]
     return name
 
 
@@ -109,6 +111,9 @@ def convert_paths(f, text, roots, need, notes):
             return f"{var}"
         step = segs[0]
         if step in ("args", "ranges", "requires"):
+            for was, now in f.data["args"]:
+                if f".{step} .{segs[1] if len(segs) > 1 else ''}" == was:
+                    segs[:2] = [part.strip().lstrip(".") for part in now.split()]
             return var + "." + ".".join(segs)
         p = place
         while p is not None:
@@ -134,7 +139,25 @@ def convert_paths(f, text, roots, need, notes):
         notes.append(f"no step {step} above {place} for {m.group(0)}")
         return ".".join([var] + segs)
 
-    return IDENT.sub(sub, text)
+    text = IDENT.sub(sub, text)
+    for name in re.findall(r"let ([^\W\d][\w\-'′]*) = [\w\-'′.]+\.args in", text):
+        for was, now in f.data["args"]:
+            if was.startswith(".args "):
+                text = re.sub(rf"(?<![\w\-'′.]){name}{re.escape(was[6:])}(?![\w\-'′])", name + now[6:], text)
+    return clause_names(f, text)
+
+
+def clause_names(f, text):
+    """A clause by its name where a local stands for a step or for its ensures."""
+    fields = {p[2][1]: f.data["clauses"][i]["fields"] for p, i in f.places.values() if f.data["clauses"][i]}
+    for m in list(re.finditer(r"let ([^\W\d][\w\-'′]*) = [^\W\d][\w\-'′]*\.([\w\-+]+)(\.ensures)? in", text)):
+        names = fields.get(m.group(2))
+        if not names or len(names) < 2:
+            continue
+        begin = r"(?<![\w\-'′.])" + re.escape(m.group(1)) + ("" if m.group(3) else r"\.ensures")
+        rest = re.sub(begin + r"\.(\d+)(?![\w\-])", lambda q: q.group(0)[: -len(q.group(1))] + names[int(q.group(1))] if int(q.group(1)) < len(names) else q.group(0), text[m.end():])
+        text = text[: m.end()] + rest
+    return text
 
 
 def as_record(body, fields, notes, new):
@@ -277,7 +300,8 @@ def run(path, module, f, fn_parts):
                 fields = f.data["asked"].get(old)
                 if fields:
                     b = as_record(b, fields, notes, new)
-                body = f"{new} c ={b}"
+                more = "".join(" " + p for p in params[2:])
+                body = f"{new} c{more} ={b}"
             else:
                 notes.append("several clauses: " + name)
             com = "".join(p + "\n" for p in parts if p.startswith("--"))
@@ -339,6 +363,8 @@ def run(path, module, f, fn_parts):
         open(os.path.join(base, "Invariants.antt"), "w").write(top + "\n" + "\n".join(u) + "\n\n" + body + "\n")
     if answers:
         body = "\n\n".join(answers)
+        # a test of a negated word is a fact on the word now
+        body = re.sub(r"not-(?:true|false) (?:_|\([^()]*\)) ((?:\w+\.)+if-not-[\w\-]+\.(?:true|false))", r"\1", body)
         u = pick(uses, body) + [f"use {mod}.Goals as goal"]
         if place_names:
             u.append(f"use {mod}.Goals.{{{', '.join(sorted(place_names))}}}")

@@ -34,6 +34,9 @@ def ours(text, name):
 for path in sorted(glob.glob("crates/*/**/*.antt", recursive=True) + glob.glob("crates/*/src/**/*.rt", recursive=True)):
     text = open(path).read()
     kept = {name for name in SHARED if name in text and not ours(text, name)}
+    if path.endswith(".rt"):
+        # the code's own functions keep their names
+        kept |= {name for name in names if re.fullmatch(r"[a-z_]+", name)}
     new = token.sub(lambda found: found.group() if found.group() in kept else names.get(found.group(), found.group()), text)
     if new != text:
         open(path, "w").write(new)

@@ -4,7 +4,7 @@ use mathlib.Core.Path.{◌≡◌, refl}
 use mathlib.Core.Bool.{Bool, true}
 use mathlib.Core.List.{List, [], ◌∷◌}
 use Rattle.rules.specs.Open.{opened}
-use Rattle.cases.proofs.Rows.{all, rows_opened, prints, answers, starts}
+use Rattle.cases.proofs.Rows.{all, rows_opened, prints, answers}
 
 unfoldable pub letter_examples : List Bool
 letter_examples =

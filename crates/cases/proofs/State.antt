@@ -4,7 +4,7 @@ use mathlib.Core.Path.{◌≡◌, refl}
 use mathlib.Core.Bool.{Bool, true}
 use mathlib.Core.List.{List, [], ◌∷◌}
 use Rattle.rules.specs.Open.{opened}
-use Rattle.cases.proofs.Rows.{all, rows_opened, prints, starts, equal}
+use Rattle.cases.proofs.Rows.{all, rows_opened, prints, starts}
 
 unfoldable pub state_examples : List Bool
 state_examples =

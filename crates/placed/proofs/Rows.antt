@@ -18,18 +18,24 @@ use Rattle.placed.specs.Held.{AmountsAt, Rows}
 pub rows_count : (P : ℕ → Entry → Type 0) (n : ℕ) (placed : Schedule) → Rows P n placed → length placed ≡ n
 unfolding Rows
 rows_count P zero [] r = refl
+rows_count P zero (e ∷ placed) r = elim r [ ]
+rows_count P (suc n) [] r = elim r [ ]
 rows_count P (suc n) (e ∷ placed) r = ap suc (rows_count P n placed r.1)
 
 -- what follows of each row
 pub rows_map : (P Q : ℕ → Entry → Type 0) (n : ℕ) (placed : Schedule) → ((i : ℕ) (e : Entry) → i < n → Memᴰ e placed → P i e → Q i e) → Rows P n placed → Rows Q n placed
 unfolding Rows
 rows_map P Q zero [] f r = r
+rows_map P Q zero (e ∷ placed) f r = elim r [ ]
+rows_map P Q (suc n) [] f r = elim r [ ]
 rows_map P Q (suc n) (e ∷ placed) f r = (f n e (omega arith) (Memᴰ.head refl) r.0, rows_map P Q n placed (λ i d k m. f i d (omega arith) (Memᴰ.tail m)) r.1)
 
 -- the entry of a row
 pub row_at : (P : ℕ → Entry → Type 0) (n : ℕ) (placed : Schedule) → Rows P n placed → (i : ℕ) → i < n → (e : Entry) × Memᴰ e placed × P i e
 unfolding Rows
 row_at P zero [] r i k = absurd (not-suc-le-zero k)
+row_at P zero (e ∷ placed) r i k = elim r [ ]
+row_at P (suc n) [] r i k = elim r [ ]
 row_at P (suc n) (e ∷ placed) r i k =
     last_or (λ j. (d : Entry) × Memᴰ d (e ∷ placed) × P j d) n i k (e, Memᴰ.head refl, r.0)
     (λ l. let d = row_at P n placed r.1 i l in (d.0, Memᴰ.tail d.1, d.2))
@@ -37,7 +43,9 @@ row_at P (suc n) (e ∷ placed) r i k =
 -- the row of an entry
 pub row_of : (P : ℕ → Entry → Type 0) (n : ℕ) (placed : Schedule) → Rows P n placed → (e : Entry) → Memᴰ e placed → (i : ℕ) × (i < n) × P i e
 unfolding Rows
-row_of P zero (x ∷ placed) r e m = absurd r
+row_of P zero [] r e m = elim m [ ]
+row_of P zero (x ∷ placed) r e m = elim r [ ]
+row_of P (suc n) [] r e m = elim r [ ]
 row_of P (suc n) (x ∷ placed) r e (Memᴰ.head q) = (n, omega arith, subst (P n) (sym q) r.0)
 row_of P (suc n) (x ∷ placed) r e (Memᴰ.tail m) = let w = row_of P n placed r.1 e m in (w.0, omega (arith, w.1), w.2)
 
@@ -60,4 +68,6 @@ volumes_more amounts n = rw add-one
 pub volumes_are : (amounts : List ℕ) (n : ℕ) (placed : Schedule) → Rows (λ i e. AmountsAt amounts i e.activity) n placed → volumes_in amounts n ≡ total_volume placed
 unfolding Rows volumes_in total_volume total
 volumes_are amounts zero [] r = refl
+volumes_are amounts zero (e ∷ placed) r = elim r [ ]
+volumes_are amounts (suc n) [] r = elim r [ ]
 volumes_are amounts (suc n) (e ∷ placed) r = rw (r.0.volume, volumes_are amounts n placed r.1)
