@@ -1,5 +1,4 @@
 -- `after::all_among` meets its contract: what is left of the ids gives the answer.
-use Prim.Native.Nat.{◌-◌}
 use mathlib.Core.Path.{refl, sym, ◌∙◌}
 use native.Mathlib.Omega.{arith}
 use lib.ListN.{take}
