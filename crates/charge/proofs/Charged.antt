@@ -63,6 +63,8 @@ module _ (h : HeaderStruct) (ticks amounts : List ℕ) where
   pub drawn_is : (n : ℕ) (placed : Schedule) → Rows (λ i e. TicksAt (header_view h) ticks i e × AmountsAt amounts i e.activity) n placed → (t : ℕ) → drawn_in h ticks amounts n t ≡ drawn (header_view h) placed t
   unfolding Rows drawn_in drawn total
   drawn_is zero [] r t = refl
+  drawn_is zero (e ∷ placed) r t = elim r [ ]
+  drawn_is (suc n) [] r t = elim r [ ]
   drawn_is (suc n) (e ∷ placed) r t =
       λ i. ((ap (λ (o : OwnDraw). draw_of o t) (row_draws n e r.0.0 r.0.1) ∙ entry_draws (header_view h) e t) i) + drawn_is n placed r.1 t i
 
