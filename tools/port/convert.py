@@ -252,7 +252,7 @@ def run(path, module, f, fn_parts):
             cur[1].append(c)
     for name, parts in groups:
         whole = "\n".join(parts)
-        sig = next((p for p in parts if re.match(r"(?:abbrev )?(?:pub )?(?:abbrev )?" + re.escape(name or "") + r" :", p)), "")
+        sig = next((p for p in parts if re.match(r"(?:abbrev )?(?:unfoldable )?(?:pub )?(?:abbrev )?" + re.escape(name or "") + r" :", p)), "")
         ty = sig.split(" :", 1)[1].strip() if name else ""
         if "statement M" in ty or re.match(r"\{M : Type 1\}", ty):
             continue
