@@ -18,7 +18,7 @@ fn main() {
     let library = folder.join("libstation.a");
     println!("cargo:rerun-if-changed={}", library.display());
     if !library.is_file() {
-        eprintln!("{} isn't there: run `rt staticlib station` in the repository,", library.display());
+        eprintln!("{} isn't there: run `bin/library` in the repository,", library.display());
         eprintln!("or name the folder of libstation.a in the environment variable PLANNER_LIB_DIR");
         exit(1);
     }

@@ -1,4 +1,4 @@
-// Links libstation.a: from the folder PLANNER_LIB_DIR if that is given, else from where `rt staticlib station` puts it.
+// Links libstation.a: from the folder PLANNER_LIB_DIR if that is given, else from where bin/library puts it.
 
 use std::env;
 use std::path::{Path, PathBuf};

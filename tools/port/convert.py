@@ -20,7 +20,7 @@ TRIVIAL = {"omega arith", "search rules", "refl", "tt", "(omega arith)", "search
 
 
 def norm(name):
-    name = name.replace("_", "-")
+    name = name.replace("_", "-").lower().removesuffix("-lem")
     for a, b in (("overflow-", ""), ("slice-bounds-", "part-"), ("offset-bounds-", ""), ("array-read", "element-copy-out"),):
         if name.startswith(a):
             name = b + name[len(a):]
@@ -114,6 +114,8 @@ def convert_paths(f, text, roots, need, notes):
             for was, now in f.data["args"]:
                 if f".{step} .{segs[1] if len(segs) > 1 else ''}" == was:
                     segs[:2] = [part.strip().lstrip(".") for part in now.split()]
+            if step == "requires" and len(segs) > 1 and segs[1].isdigit() and int(segs[1]) < len(own_requires(f)) > 1:
+                segs[1] = own_requires(f)[int(segs[1])]
             return var + "." + ".".join(segs)
         p = place
         while p is not None:
@@ -147,14 +149,18 @@ def convert_paths(f, text, roots, need, notes):
     return clause_names(f, text)
 
 
+def own_requires(f):
+    return (f.data.get("pre") or {}).get("fields") or []
+
+
 def clause_names(f, text):
     """A clause by its name where a local stands for a step or for its ensures."""
     fields = {p[2][1]: f.data["clauses"][i]["fields"] for p, i in f.places.values() if f.data["clauses"][i]}
     for m in list(re.finditer(r"let ([^\W\d][\w\-'′]*) = [^\W\d][\w\-'′]*\.([\w\-+]+)(\.ensures)? in", text)):
-        names = fields.get(m.group(2))
+        names = own_requires(f) if m.group(2) == "requires" else fields.get(m.group(2))
         if not names or len(names) < 2:
             continue
-        begin = r"(?<![\w\-'′.])" + re.escape(m.group(1)) + ("" if m.group(3) else r"\.ensures")
+        begin = r"(?<![\w\-'′.])" + re.escape(m.group(1)) + ("" if m.group(3) or m.group(2) == "requires" else r"\.ensures")
         rest = re.sub(begin + r"\.(\d+)(?![\w\-])", lambda q: q.group(0)[: -len(q.group(1))] + names[int(q.group(1))] if int(q.group(1)) < len(names) else q.group(0), text[m.end():])
         text = text[: m.end()] + rest
     return text
@@ -246,7 +252,7 @@ def run(path, module, f, fn_parts):
             cur[1].append(c)
     for name, parts in groups:
         whole = "\n".join(parts)
-        sig = next((p for p in parts if re.match(r"(?:abbrev )?(?:pub )?(?:abbrev )?" + re.escape(name or "") + r" :", p)), "")
+        sig = next((p for p in parts if re.match(r"(?:abbrev )?(?:unfoldable )?(?:pub )?(?:abbrev )?" + re.escape(name or "") + r" :", p)), "")
         ty = sig.split(" :", 1)[1].strip() if name else ""
         if "statement M" in ty or re.match(r"\{M : Type 1\}", ty):
             continue

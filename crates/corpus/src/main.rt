@@ -1,12 +1,15 @@
 #![tactic(auto)]
 // Goes through a stored stream of plans and prints the answers of every call (tests/README.md, The corpus).
 // What a call must leave as it was is checked on the way: a line `wrong` says where it is not.
-ghost use Rattle.std.specs.Prelude.{◌≤◌, ◌<◌, length};
+ghost use Rattle.std.specs.Prelude.{◌≤◌, ◌<◌, IfOk, length};
 
 mod answer;
 mod reports;
 mod starts;
 
+use input::{read_input, trouble};
+use std::io;
+use std::process::ExitCode;
 use text::field::{field_at, find};
 use text::number::{Number, read_number};
 
@@ -38,56 +41,65 @@ fn asked_in(line: &[u8]) -> Asked {
 }
 
 // Prints the answers of the calls that take a place.
-fn answer_place(plan: &[u8], place: usize, sets: u64) {
-    answer::put_outcome(place, calls::outcome(plan, place));
-    starts::answer_sets(plan, place, sets);
-    starts::answer_short(plan, place);
+fn answer_place(rt: &impl Print, plan: &[u8], place: usize, sets: u64) -> io::Result<()> {
+    answer::put_outcome(rt, place, calls::outcome(plan, place))?;
+    starts::answer_sets(rt, plan, place, sets)?;
+    starts::answer_short(rt, plan, place)
 }
 
 // Prints them for each place from `first` to before `last`.
-fn answer_places(plan: &[u8], first: u64, last: u64, sets: u64) {
+fn answer_places(rt: &impl Print, plan: &[u8], first: u64, last: u64, sets: u64) -> io::Result<()> {
     for place in first..last {
-        answer_place(plan, place as usize, sets);
+        answer_place(rt, plan, place as usize, sets)?;
     }
+    Ok(())
 }
 
 // Prints the answers to the record at `at`, and answers where the next one is.
-fn answer_record(s: &[u8], at: usize) -> usize
+fn answer_record(rt: &impl Print, s: &[u8], at: usize) -> io::Result<usize>
     requires { at < length s.now }
-    ensures { (at < result) × (result ≤ length s.now) }
+    ensures { IfOk result (λ next. (at < next) × (next ≤ length s.now)) }
 {
     let end = find(s, at, b'\n');
     if end == s.len() {
-        answer::wrong(b"a record without a first line");
-        return end;
+        answer::wrong(rt, b"a record without a first line")?;
+        return Ok(end);
     }
     let asked = asked_in(&s[at..end]);
     let from = end + 1;
     if ((s.len() - from) as u64) < asked.length {
-        answer::wrong(b"a record that is cut off");
-        return s.len();
+        answer::wrong(rt, b"a record that is cut off")?;
+        return Ok(s.len());
     }
     let to = from + asked.length as usize;
-    reports::answer_reports(&s[from..to]);
-    answer_places(&s[from..to], asked.first, asked.last, asked.sets);
-    to
+    reports::answer_reports(rt, &s[from..to])?;
+    answer_places(rt, &s[from..to], asked.first, asked.last, asked.sets)?;
+    Ok(to)
 }
 
 // Prints the answers to each record of s.
-fn answer_records(s: &[u8]) {
+fn answer_records(rt: &impl Print, s: &[u8]) -> io::Result<()> {
     let mut at = 0;
     let mut number = 0;
     while at < s.len() {
-        answer::put_word(b"plan");
-        answer::put(number);
-        answer::end_line();
-        at = answer_record(s, at);
+        answer::put_word(rt, b"plan")?;
+        answer::put(rt, number)?;
+        answer::end_line(rt)?;
+        at = answer_record(rt, s, at)?;
         number += 1;
     }
+    Ok(())
 }
 
-fn main() {
+fn main(rt: HostRuntime) -> ExitCode {
     let mut space = [0u8; 262144];
-    let n = io::read_full(0, &mut space);
-    answer_records(&space[..n]);
+    let input = read_input(&mut rt.stdin(), &mut space);
+    if input.failed {
+        return trouble(&rt, "corpus: standard input cannot be read");
+    }
+    let n = input.count;
+    if answer_records(&rt, &space[..n]).is_err() {
+        return trouble(&rt, "corpus: standard output cannot be written");
+    }
+    ExitCode::SUCCESS
 }

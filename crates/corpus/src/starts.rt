@@ -1,6 +1,7 @@
 // The calls of starts.
 use super::answer;
 use rules::CountAnswer;
+use std::io;
 
 // The sets asked, as many from the front as a record says.
 const SETS: [u32; 29] = [
@@ -32,87 +33,100 @@ fn left_from(xs: &[u32; 64], from: usize) -> bool {
 }
 
 // Checks that the records from `from` on are as they were lent.
-fn check_left<'a>(firsts: &'a [u32; 64], lasts: &'a [u32; 64], from: usize) {
+fn check_left<'a>(
+    rt: &impl Print,
+    firsts: &'a [u32; 64],
+    lasts: &'a [u32; 64],
+    from: usize,
+) -> io::Result<()> {
     if !left_from(firsts, from) {
-        answer::wrong(b"the firsts behind the runs");
+        answer::wrong(rt, b"the firsts behind the runs")?;
     }
     if !left_from(lasts, from) {
-        answer::wrong(b"the lasts behind the runs");
+        answer::wrong(rt, b"the lasts behind the runs")?;
     }
+    Ok(())
 }
 
 // Writes a tab and a run.
-fn put_run(first: u32, last: u32) {
-    answer::put(first as u64);
-    io::write_all(1, b":");
-    io::print_decimal(1, last as u64);
+fn put_run(rt: &impl Print, first: u32, last: u32) -> io::Result<()> {
+    answer::put(rt, first as u64)?;
+    rt.write_all(b":")?;
+    print!(rt; "{last}")
 }
 
 // Writes the first n runs.
-fn put_runs<'a>(firsts: &'a [u32; 64], lasts: &'a [u32; 64], n: usize) {
+fn put_runs<'a>(
+    rt: &impl Print,
+    firsts: &'a [u32; 64],
+    lasts: &'a [u32; 64],
+    n: usize,
+) -> io::Result<()> {
     let mut i = 0;
     while i < n {
         if 64 <= i {
-            return;
+            return Ok(());
         }
-        put_run(firsts[i], lasts[i]);
+        put_run(rt, firsts[i], lasts[i])?;
         i += 1;
     }
+    Ok(())
 }
 
 // Prints the runs of starts that meet a set.
-fn answer_starts(plan: &[u8], place: usize, set: u32) {
+fn answer_starts(rt: &impl Print, plan: &[u8], place: usize, set: u32) -> io::Result<()> {
     let mut firsts = [MARK; 64];
     let mut lasts = [MARK; 64];
     let answer = calls::starts(plan, place, set, &mut firsts, &mut lasts);
-    answer::put_word(b"starts");
-    answer::put(place as u64);
-    answer::put(set as u64);
-    answer::put_count(answer);
-    put_runs(&firsts, &lasts, answer::count_of(answer));
-    answer::end_line();
-    check_left(&firsts, &lasts, answer::count_of(answer));
+    answer::put_word(rt, b"starts")?;
+    answer::put(rt, place as u64)?;
+    answer::put(rt, set as u64)?;
+    answer::put_count(rt, answer)?;
+    put_runs(rt, &firsts, &lasts, answer::count_of(answer))?;
+    answer::end_line(rt)?;
+    check_left(rt, &firsts, &lasts, answer::count_of(answer))
 }
 
 // Prints them for the first `sets` sets.
-pub fn answer_sets(plan: &[u8], place: usize, sets: u64) {
+pub fn answer_sets(rt: &impl Print, plan: &[u8], place: usize, sets: u64) -> io::Result<()> {
     for i in 0..sets {
-        answer_starts(plan, place, set_at(i));
+        answer_starts(rt, plan, place, set_at(i))?;
     }
+    Ok(())
 }
 
 // Checks starts with room for the firsts and none for the lasts: the answer is that for no room at all.
-fn check_no_lasts(plan: &[u8], place: usize, number: u32) {
+fn check_no_lasts(rt: &impl Print, plan: &[u8], place: usize, number: u32) -> io::Result<()> {
     let mut firsts = [MARK; 64];
     let mut lasts = [MARK; 64];
     let answer = calls::starts(plan, place, 511, &mut firsts, &mut lasts[..0]);
     if answer::number_of(answer) != number {
-        answer::wrong(b"the refusal of starts with no room for the lasts");
+        answer::wrong(rt, b"the refusal of starts with no room for the lasts")?;
     }
-    check_left(&firsts, &lasts, 0);
+    check_left(rt, &firsts, &lasts, 0)
 }
 
 // The other way round.
-fn check_no_firsts(plan: &[u8], place: usize, number: u32) {
+fn check_no_firsts(rt: &impl Print, plan: &[u8], place: usize, number: u32) -> io::Result<()> {
     let mut firsts = [MARK; 64];
     let mut lasts = [MARK; 64];
     let answer = calls::starts(plan, place, 511, &mut firsts[..0], &mut lasts);
     if answer::number_of(answer) != number {
-        answer::wrong(b"the refusal of starts with no room for the firsts");
+        answer::wrong(rt, b"the refusal of starts with no room for the firsts")?;
     }
-    check_left(&firsts, &lasts, 0);
+    check_left(rt, &firsts, &lasts, 0)
 }
 
 // Prints the answer of starts for every condition into no records.
-pub fn answer_short(plan: &[u8], place: usize) {
+pub fn answer_short(rt: &impl Print, plan: &[u8], place: usize) -> io::Result<()> {
     let mut firsts = [MARK; 64];
     let mut lasts = [MARK; 64];
     let answer = calls::starts(plan, place, 511, &mut firsts[..0], &mut lasts[..0]);
-    answer::put_word(b"short");
-    answer::put(place as u64);
-    answer::put_count(answer);
-    answer::end_line();
-    check_left(&firsts, &lasts, 0);
-    check_no_lasts(plan, place, answer::number_of(answer));
-    check_no_firsts(plan, place, answer::number_of(answer));
+    answer::put_word(rt, b"short")?;
+    answer::put(rt, place as u64)?;
+    answer::put_count(rt, answer)?;
+    answer::end_line(rt)?;
+    check_left(rt, &firsts, &lasts, 0)?;
+    check_no_lasts(rt, plan, place, answer::number_of(answer))?;
+    check_no_firsts(rt, plan, place, answer::number_of(answer))
 }

@@ -36,13 +36,15 @@ end_leb : (b : Bool) (e s : ℕ) → s < never → leb (cond b e never) s ≡ (b
 end_leb true e s k = refl
 end_leb false e s k = lt-leb never s k
 
-first_end_lem : (h : Header) (ticks : List ℕ) (n : ℕ) (placed : Schedule) → Rows (TicksAt h ticks) n placed → (s id : ℕ) → s < never → leb (first_end ticks id n) s ≡ ended_by placed s id
+first_end_is : (h : Header) (ticks : List ℕ) (n : ℕ) (placed : Schedule) → Rows (TicksAt h ticks) n placed → (s id : ℕ) → s < never → leb (first_end ticks id n) s ≡ ended_by placed s id
 unfolding Rows first_end ended_by any_of
-first_end_lem h ticks zero [] r s id k = lt-leb never s k
-first_end_lem h ticks (suc n) (e ∷ placed) r s id k =
+first_end_is h ticks zero (e ∷ placed) r s id k = elim r [ ]
+first_end_is h ticks (suc n) [] r s id k = elim r [ ]
+first_end_is h ticks zero [] r s id k = lt-leb never s k
+first_end_is h ticks (suc n) (e ∷ placed) r s id k =
     leb_min (cond (eqb (id_at ticks n) id) (end_at ticks n) never) (first_end ticks id n) s
     ∙ ap (λ (b : Bool). b || leb (first_end ticks id n) s) (end_leb (eqb (id_at ticks n) id) (end_at ticks n) s k)
-    ∙ ap (λ (b : Bool). (eqb (id_at ticks n) id && leb (end_at ticks n) s) || b) (first_end_lem h ticks n placed r.1 s id k)
+    ∙ ap (λ (b : Bool). (eqb (id_at ticks n) id && leb (end_at ticks n) s) || b) (first_end_is h ticks n placed r.1 s id k)
     ∙ rw (r.0.id, r.0.ends) refl
 
 -- the first start tells all that have ended
@@ -51,7 +53,7 @@ unfolding ready_from every
 ready_is h ticks n placed r ids zero s k l = le-leb 0 s (omega arith)
 ready_is h ticks n placed r ids (suc count) s k l =
     leb_max (first_end ticks (get_or ids count 0) n) (ready_from ticks n ids count) s
-    ∙ ap (λ (b : Bool). b && leb (ready_from ticks n ids count) s) (first_end_lem h ticks n placed r s (get_or ids count 0) k)
+    ∙ ap (λ (b : Bool). b && leb (ready_from ticks n ids count) s) (first_end_is h ticks n placed r s (get_or ids count 0) k)
     ∙ ap (λ (b : Bool). ended_by placed s (get_or ids count 0) && b) (ready_is h ticks n placed r ids count s k (omega arith))
     ∙ sym (every_more (ended_by placed s) 0 ids count (omega arith))
 

@@ -1,26 +1,37 @@
 #![tactic(auto)]
-// Standard input, read whole, for the programs.
-ghost use Rattle.io.specs.Counts.{IsPrefixLen};
+// The input, read whole, and how a program ends that has trouble.
+ghost use Rattle.std.specs.Prelude.{◌≡◌, ◌≤◌, ◌<◌, false, length, take};
+ghost use Rattle.std.specs.Io.KnownBytes.{Consumes, IsAtEnd};
 
-// How many bytes of standard input were read, and whether a read failed.
+use std::io::{Eprint, Read};
+use std::process::ExitCode;
+
+// How many bytes of the input were read, and whether a read failed.
 #[derive(Clone, Copy)]
 pub struct Input {
     pub count: usize,
     pub failed: bool,
 }
 
-// Reads standard input to its end, or until the buffer is full.
-pub fn read_input(buf: &mut [u8]) -> Input
-    ensures { IsPrefixLen result.count buf.new }
+// Reads the input to its end, or until the buffer is full or a read fails, into the front of the buffer.
+pub fn read_input<R: Read>(reader: &mut R, buf: &mut [u8]) -> Input
+    ensures within { result.count ≤ length buf.new }
+    ensures front { result.count ≡ length (take result.count buf.new) }
+    ensures taken { Consumes (R.remaining reader.old) (R.remaining reader.new) (take result.count buf.new) }
+    ensures whole { result.failed ≡ false → result.count < length buf.new → IsAtEnd (R.remaining reader.new) }
 {
     let mut at = 0;
     while at < buf.len() {
-        let got = libc::read(0, &mut buf[at..]);
-        let more = io::count(got, &buf[at..]);
+        let Ok(more) = reader.read(&mut buf[at..]) else {
+            return Input {
+                count: at,
+                failed: true,
+            };
+        };
         if more == 0 {
             return Input {
                 count: at,
-                failed: got < 0,
+                failed: false,
             };
         }
         at += more;
@@ -29,4 +40,10 @@ pub fn read_input(buf: &mut [u8]) -> Input
         count: at,
         failed: false,
     }
+}
+
+// Says on standard error what the trouble is, and answers the status to end with.
+pub fn trouble(rt: &impl Eprint, what: &str) -> ExitCode {
+    let _ = rt.eprintln(what);
+    ExitCode::FAILURE
 }

@@ -70,19 +70,19 @@ pub weighed_clear : (ticks : List ℕ) (weights : ℕ → ℕ) (n : ℕ) (column
 weighed_clear ticks weights n column weight limit d s f = clear_same _ _ weight limit d s (λ t. load_same ticks (number_at column) weights n t f.at)
 
 -- the engines are column 0 of the amounts
-engines_at_lem : (amounts : List ℕ) (i : ℕ) → amount_at amounts 0 i ≡ engines_at amounts i
-engines_at_lem amounts i = let e : i * 4 + 0 ≡ i * 4 = omega arith in ap (λ (x : ℕ). get_or amounts x 0) e
+engine_amounts : (amounts : List ℕ) (i : ℕ) → amount_at amounts 0 i ≡ engines_at amounts i
+engine_amounts amounts i = let e : i * 4 + 0 ≡ i * 4 = omega arith in ap (λ (x : ℕ). get_or amounts x 0) e
 
 -- either column is at most a million
-pub amounts_bounded_lem : (amounts : List ℕ) (c n : ℕ) → c < 2 → AmountsBounded amounts (n + 1) → WeightsBounded (amount_at amounts c) n
-amounts_bounded_lem amounts c n k b i l =
+pub amounts_bounded : (amounts : List ℕ) (c n : ℕ) → c < 2 → AmountsBounded amounts (n + 1) → WeightsBounded (amount_at amounts c) n
+amounts_bounded amounts c n k b i l =
     last_or (λ d. amount_at amounts d i ≤ 1000000) 1 c k (b.peak i (omega arith))
-    (λ m. let z : 0 ≡ c = omega arith in subst (λ (d : ℕ). amount_at amounts d i ≤ 1000000) z (rw (engines_at_lem amounts i) (b.engines i (omega arith))))
+    (λ m. let z : 0 ≡ c = omega arith in subst (λ (d : ℕ). amount_at amounts d i ≤ 1000000) z (rw (engine_amounts amounts i) (b.engines i (omega arith))))
 
 pub engines_clear : (ticks amounts : List ℕ) (n limit d s : ℕ) → clear_for (fits (load_in ticks (amount_at amounts 0) n) (amount_at amounts 0 n) limit) d s ≡ clear_for (fits (load_in ticks (engines_at amounts) n) (engines_at amounts n) limit) d s
 engines_clear ticks amounts n limit d s =
-    clear_same _ _ (amount_at amounts 0 n) limit d s (λ t. load_same ticks (amount_at amounts 0) (engines_at amounts) n t (λ i k. engines_at_lem amounts i))
-    ∙ ap (λ (x : ℕ). clear_for (fits (load_in ticks (engines_at amounts) n) x limit) d s) (engines_at_lem amounts n)
+    clear_same _ _ (amount_at amounts 0 n) limit d s (λ t. load_same ticks (amount_at amounts 0) (engines_at amounts) n t (λ i k. engine_amounts amounts i))
+    ∙ ap (λ (x : ℕ). clear_for (fits (load_in ticks (engines_at amounts) n) x limit) d s) (engine_amounts amounts n)
 
 -- whether a unit is shared weighs at most 1
 pub sharing_bounded : (units : List ℕ) (n : ℕ) → WeightsBounded (sharing units n) n

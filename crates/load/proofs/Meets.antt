@@ -24,7 +24,7 @@ use Rattle.placed.proofs.Rows.{rows_map}
 use Rattle.load.specs.Loads.{load_in, sharing}
 use Rattle.load.specs.Clear.{fits, clear_for}
 use Rattle.load.proofs.Loading.{clear_same}
-use Rattle.load.proofs.Units.{share_unit_lem}
+use Rattle.load.proofs.Units.{share_unit_is}
 
 -- the rows' weights are a quantity of the placed
 abbrev Weighing : Header → List ℕ → (ℕ → ℕ) → (Activity → ℕ) → ℕ → Entry → Type 0
@@ -33,6 +33,8 @@ Weighing h ticks weights quantity i e = TicksAt h ticks i e × (weights i ≡ qu
 -- the load of the rows is that of the schedule
 load_is : (h : Header) (ticks : List ℕ) (weights : ℕ → ℕ) (quantity : Activity → ℕ) (n : ℕ) (placed : Schedule) (t : ℕ) → Rows (Weighing h ticks weights quantity) n placed → load_in ticks weights n t ≡ load quantity placed t
 unfolding Rows load_in load total holds
+load_is h ticks weights quantity zero (e ∷ placed) t r = elim r [ ]
+load_is h ticks weights quantity (suc n) [] t r = elim r [ ]
 load_is h ticks weights quantity zero [] t r = refl
 load_is h ticks weights quantity (suc n) (e ∷ placed) t r = rw (r.0.0.start, r.0.0.ends, r.0.1, load_is h ticks weights quantity n placed t r.1)
 
@@ -64,6 +66,7 @@ module _ (quantity : Activity → ℕ) (t : ℕ) where
   -- one that holds the tick adds its own
   load_of : (placed : Schedule) (e : Entry) → Memᴰ e placed → holds t e ≡ true → quantity e.activity ≤ load quantity placed t
   unfolding load total
+  load_of [] e m k = elim m [ ]
   load_of (d ∷ placed) e (Memᴰ.head q) k =
       let same : cond (holds t e) (quantity e.activity) 0 ≡ cond (holds t d) (quantity d.activity) 0 = ap (λ (x : Entry). cond (holds t x) (quantity x.activity) 0) q in
       let own : cond (holds t e) (quantity e.activity) 0 ≡ quantity e.activity = rw k in
@@ -115,5 +118,5 @@ module _ (h : Header) (ticks units : List ℕ) (n : ℕ) (placed : Schedule) (a 
   pub units_meet : (s : ℕ) → s + a.duration ≤ h.horizon → clear_for (fits (load_in ticks (sharing units n) n) 0 0) a.duration s ≡ meets_u h placed a s
   unfolding sharing share
   units_meet s l =
-      clear_same _ _ 0 0 a.duration s (λ t. load_is h ticks (sharing units n) (shares a) n placed t (rows_map _ _ n placed (λ i e k m p. (p.0, ap (λ (b : Bool). cond b 1 0) (share_unit_lem units i n a e.activity p.1 candidate (λ u m. formed.units.in_range u m)))) rows))
+      clear_same _ _ 0 0 a.duration s (λ t. load_is h ticks (sharing units n) (shares a) n placed t (rows_map _ _ n placed (λ i e k m p. (p.0, ap (λ (b : Bool). cond b 1 0) (share_unit_is units i n a e.activity p.1 candidate (λ u m. formed.units.in_range u m)))) rows))
       ∙ shares_none h placed a s l

@@ -26,9 +26,9 @@ flag units i u a f k = ap (λ (x : ℕ). eqb x 1) (f u k) ∙ go (any_of (eqb u)
     go true = refl
     go false = refl
 
-pub share_unit_lem : (units : List ℕ) (i j : ℕ) (a b : Activity) → UnitsAt units i b → UnitsAt units j a → ((u : ℕ) → Memᴰ u a.units → u ≤ 31) → share_unit units i j ≡ any_of (λ u. any_of (eqb u) b.units) a.units
+pub share_unit_is : (units : List ℕ) (i j : ℕ) (a b : Activity) → UnitsAt units i b → UnitsAt units j a → ((u : ℕ) → Memᴰ u a.units → u ≤ 31) → share_unit units i j ≡ any_of (λ u. any_of (eqb u) b.units) a.units
 unfolding share_unit
-share_unit_lem units i j a b f g few = bool_ext _ _ there back
+share_unit_is units i j a b f g few = bool_ext _ _ there back
   where
     there : ever (λ u. eqb (unit_at units i u) 1 && eqb (unit_at units j u) 1) 32 ≡ true → any_of (λ u. any_of (eqb u) b.units) a.units ≡ true
     there q =

@@ -4,123 +4,130 @@ ghost use Rattle.plan.specs.View.{PlanSaid};
 use activity::{Activity, Header};
 use plan::accessor::activity_at;
 use plan::{Plan, Reading};
+use std::io;
 
 // Writes x.
-fn print(x: u32) {
-    io::print_decimal(1, x as u64);
+fn print(rt: &impl Print, x: u32) -> io::Result<()> {
+    print!(rt; "{x}")
 }
 
 // Writes a tab and x.
-fn put(x: u32) {
-    io::write_all(1, b"\t");
-    print(x);
+fn put(rt: &impl Print, x: u32) -> io::Result<()> {
+    rt.write_all(b"\t")?;
+    print(rt, x)
 }
 
 // Writes the byte before item i: a tab before the first, else a comma.
-fn put_before(i: usize) {
+fn put_before(rt: &impl Print, i: usize) -> io::Result<()> {
     if i == 0 {
-        io::write_all(1, b"\t");
+        rt.write_all(b"\t")
     } else {
-        io::write_all(1, b",");
+        rt.write_all(b",")
     }
 }
 
 // Writes a tab and the first n numbers.
-fn put_numbers(xs: &[u32], n: usize) {
+fn put_numbers(rt: &impl Print, xs: &[u32], n: usize) -> io::Result<()> {
     if n == 0 {
-        io::write_all(1, b"\t-");
-        return;
+        return rt.write_all(b"\t-");
     }
     let mut i = 0;
     while i < n {
         if xs.len() <= i {
-            return;
+            return Ok(());
         }
-        put_before(i);
-        print(xs[i]);
+        put_before(rt, i)?;
+        print(rt, xs[i])?;
         i += 1;
     }
+    Ok(())
 }
 
 // Writes a tab and the first n pairs, each with the byte of `mark` inside.
-fn put_pairs<'a>(xs: &'a [u32], ys: &'a [u32], n: usize, mark: &'a [u8]) {
+fn put_pairs<'a>(
+    rt: &impl Print,
+    xs: &'a [u32],
+    ys: &'a [u32],
+    n: usize,
+    mark: &'a [u8],
+) -> io::Result<()> {
     if n == 0 {
-        io::write_all(1, b"\t-");
-        return;
+        return rt.write_all(b"\t-");
     }
     let mut i = 0;
     while i < n {
         if xs.len() <= i {
-            return;
+            return Ok(());
         }
         if ys.len() <= i {
-            return;
+            return Ok(());
         }
-        put_before(i);
-        print(xs[i]);
-        io::write_all(1, mark);
-        print(ys[i]);
+        put_before(rt, i)?;
+        print(rt, xs[i])?;
+        rt.write_all(mark)?;
+        print(rt, ys[i])?;
         i += 1;
     }
+    Ok(())
 }
 
 // Writes the first line of a plan.
-fn put_header(h: Header) {
-    io::write_all(1, b"plan");
-    put(h.horizon);
-    put(h.minute);
-    put(h.capacity);
-    put(h.floor);
-    put(h.first);
-    put(h.rate);
-    put(h.handover);
-    put(h.engines);
-    put(h.peak);
-    put(h.volume);
-    put(h.heater);
-    io::write_all(1, b"\n");
+fn put_header(rt: &impl Print, h: Header) -> io::Result<()> {
+    rt.write_all(b"plan")?;
+    put(rt, h.horizon)?;
+    put(rt, h.minute)?;
+    put(rt, h.capacity)?;
+    put(rt, h.floor)?;
+    put(rt, h.first)?;
+    put(rt, h.rate)?;
+    put(rt, h.handover)?;
+    put(rt, h.engines)?;
+    put(rt, h.peak)?;
+    put(rt, h.volume)?;
+    put(rt, h.heater)?;
+    rt.write_all(b"\n")
 }
 
 // Writes an activity's windows, and what it comes after.
-fn put_windows(a: Activity) {
+fn put_windows(rt: &impl Print, a: Activity) -> io::Result<()> {
     let from = a.window_from;
     let to = a.window_to;
-    put_pairs(&from, &to, a.window_count, b":");
+    put_pairs(rt, &from, &to, a.window_count, b":")?;
     let after = a.after;
-    put_numbers(&after, a.after_count);
+    put_numbers(rt, &after, a.after_count)
 }
 
 // Writes an activity's units, needs and sets.
-fn put_units(a: Activity) {
+fn put_units(rt: &impl Print, a: Activity) -> io::Result<()> {
     let units = a.units;
-    put_numbers(&units, a.unit_count);
+    put_numbers(rt, &units, a.unit_count)?;
     let need_variable = a.need_variable;
     let need_value = a.need_value;
-    put_pairs(&need_variable, &need_value, a.need_count, b"=");
+    put_pairs(rt, &need_variable, &need_value, a.need_count, b"=")?;
     let set_variable = a.set_variable;
     let set_value = a.set_value;
-    put_pairs(&set_variable, &set_value, a.set_count, b"=");
+    put_pairs(rt, &set_variable, &set_value, a.set_count, b"=")
 }
 
 // Writes an activity's line.
-fn put_activity(a: Activity) {
-    io::write_all(1, b"act");
-    put(a.id);
-    put(a.priority);
-    put(a.duration);
-    put(a.preferred);
-    put_windows(a);
-    put_units(a);
-    put(a.engines);
-    put(a.peak);
-    put(a.draw);
-    put(a.volume);
-    put(a.warm);
-    io::write_all(1, b"\n");
+fn put_activity(rt: &impl Print, a: Activity) -> io::Result<()> {
+    rt.write_all(b"act")?;
+    put(rt, a.id)?;
+    put(rt, a.priority)?;
+    put(rt, a.duration)?;
+    put(rt, a.preferred)?;
+    put_windows(rt, a)?;
+    put_units(rt, a)?;
+    put(rt, a.engines)?;
+    put(rt, a.peak)?;
+    put(rt, a.draw)?;
+    put(rt, a.volume)?;
+    put(rt, a.warm)?;
+    rt.write_all(b"\n")
 }
 
 // Writes the activities of the plan p, whose lines are those of s.
-fn put_activities(s: &[u8], p: Plan)
+fn put_activities(rt: &impl Print, s: &[u8], p: Plan) -> io::Result<()>
     requires { PlanSaid s.now p }
 {
     let n = p.count;
@@ -128,23 +135,23 @@ fn put_activities(s: &[u8], p: Plan)
     let header = p.header;
     let mut i = 0;
     while i < n {
-        put_activity(activity_at(s, lines[i], header));
+        put_activity(rt, activity_at(s, lines[i], header))?;
         i += 1;
     }
+    Ok(())
 }
 
 // Writes what the file s says.
-pub fn show_reading(s: &[u8], r: Reading)
+pub fn show_reading(rt: &impl Print, s: &[u8], r: Reading) -> io::Result<()>
     requires { PlanSaid s.now r.plan }
 {
     if r.number != 0 {
-        io::write_all(1, b"no");
-        put(r.number);
-        put(r.line);
-        io::write_all(1, b"\n");
-        return;
+        rt.write_all(b"no")?;
+        put(rt, r.number)?;
+        put(rt, r.line)?;
+        return rt.write_all(b"\n");
     }
     let p = r.plan;
-    put_header(p.header);
-    put_activities(s, p);
+    put_header(rt, p.header)?;
+    put_activities(rt, s, p)
 }

@@ -62,6 +62,8 @@ Said h ticks settings i e = TicksAt h ticks i e × SettingsAt settings i e.activ
 
 stands_is : (h : Header) (ticks settings : List ℕ) (v t : ℕ) → v < 8 → (n : ℕ) (placed : Schedule) → Rows (Said h ticks settings) n placed → standing_by ticks settings v t n ≡ coded (standing placed v t)
 unfolding standing_by standing Rows
+stands_is h ticks settings v t k zero (e ∷ placed) r = elim r [ ]
+stands_is h ticks settings v t k (suc n) [] r = elim r [ ]
 stands_is h ticks settings v t k zero [] r = refl
 stands_is h ticks settings v t k (suc n) (e ∷ placed) r =
     (λ i. later_value (r.0.0.ends i) (r.0.1.sets v k i) t (stands_is h ticks settings v t k n placed r.1 i))

@@ -2,6 +2,5 @@ pub mod Sizes
 pub mod Unpacking
 pub mod Promise
 pub mod StartsExported
--- For the two proofs by hand.
-pub mod LocalArray
+-- For the loop of `put_runs`.
 pub mod PutRuns

@@ -1,5 +1,4 @@
 -- What the library answers for every byte string meets demand 3: its answers unpacked are those of the calls.
--- Assumes nothing.
 use Prim.Native.Nat.{ℕ}
 use mathlib.Core.Path.{◌≡◌, ◌∙◌, ap}
 use mathlib.Core.List.{List, [], ◌∷◌}

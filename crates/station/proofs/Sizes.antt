@@ -1,5 +1,4 @@
 -- How large the answers are: a refusal's number and line, a start, a set of conditions, the runs, the report.
--- Assumes nothing.
 use Prim.Native.Nat.{ℕ, zero, suc, ◌-◌, ◌*◌, ◌<◌, ◌≤◌}
 use mathlib.Core.Path.{◌≡◌, refl}
 use mathlib.Core.Logic.{◌≢◌}

@@ -1,5 +1,4 @@
 -- What the starts call leaves of a slice of runs, from the columns that it is filled from.
--- Assumes nothing.
 use Prim.Native.Nat.{ℕ, zero, suc, min, ◌≤◌}
 use mathlib.Core.Path.{◌≡◌, refl, sym, ◌∙◌, ap, subst}
 use mathlib.Core.List.{List, [], ◌∷◌, ◌++◌, map, append_assoc}

@@ -1,5 +1,4 @@
 -- Unpacking gives every answer of the calls back, by the sizes of what it can hold.
--- Assumes nothing.
 use Prim.Native.Nat.{ℕ, ◌<◌, ◌≤◌}
 use mathlib.Core.Path.{◌≡◌, refl, sym, ◌∙◌, ap, subst}
 use mathlib.Core.Logic.{◌≢◌}

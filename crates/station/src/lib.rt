@@ -1,5 +1,5 @@
 #![tactic(auto)]
-// The calls for a station's own software, in C or Rust: each answers with one number (crate `packing`).
+// The calls for a station's own software: each answers with one number (crate `packing`). Crate `station_c` exports them.
 ghost use Rattle.std.specs.Prelude.{◌≡◌};
 ghost use Rattle.station.specs.Exported.{OutcomeExported, ReportExported, StartsExported};
 ghost use Rattle.station.specs.Version.{version};
@@ -11,33 +11,29 @@ mod intervals;
 const VERSION: u32 = 1;
 
 // The version of the library (specs/Version.antt).
-#[unsafe(no_mangle)]
-pub extern "C" fn planner_version() -> u32
+pub fn planner_version() -> u32
     ensures { result ≡ version }
 {
     VERSION
 }
 
 // The outcome of the activity at a place: placed with its start, or refused with its letters.
-#[unsafe(no_mangle)]
-pub extern "C" fn planner_outcome(plan: &[u8], place: usize) -> u64
+pub fn planner_outcome(plan: &[u8], place: usize) -> u64
     ensures { OutcomeExported plan.now place result }
 {
     packing::pack_outcome(calls::outcome(plan, place))
 }
 
 // The report, written to the front of `out`; answers its length.
-#[unsafe(no_mangle)]
-pub extern "C" fn planner_report(plan: &[u8], out: &mut [u8]) -> u64
+pub fn planner_report(plan: &[u8], out: &mut [u8]) -> u64
     ensures { ReportExported plan.now out.old result out.new }
 {
     packing::pack_count(calls::report(plan, out))
 }
 
 // The runs of starts of the activity at a place that meet a set of conditions, written to the front of `out`; answers
-// their count. It is proved by hand, and so handles numbers and slices alone: the answer comes packed from `columns`.
-#[unsafe(no_mangle)]
-pub extern "C" fn planner_starts(plan: &[u8], place: usize, set: u32, out: &mut [Interval]) -> u64
+// their count. Only numbers and slices are handled here: the answer comes packed from `columns`.
+pub fn planner_starts(plan: &[u8], place: usize, set: u32, out: &mut [Interval]) -> u64
     ensures { StartsExported plan.now place set out.old result out.new }
 {
     let mut firsts = [0u32; 2048];
