@@ -16,6 +16,9 @@ use rules::{PLACES, among};
 use text::field::find;
 use text::word::ACT;
 
+// A plan has at most this many activities.
+const MOST_LINES: usize = PLACES;
+
 // The first `count` activity lines, in order, and their ids; where the number is not 0, the refusal's number and line.
 #[derive(Clone, Copy)]
 pub struct Lines {
@@ -79,7 +82,7 @@ fn add_line(t: Lines, s: &[u8], at: usize, end: usize, h: Header) -> Lines
         return refuse(t, 2);
     }
     let n = t.count;
-    if PLACES <= n {
+    if MOST_LINES <= n {
         return refuse(t, 5);
     }
     let r = read_activity(l, h);

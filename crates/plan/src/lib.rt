@@ -20,6 +20,9 @@ use rules::PLACES;
 use text::field::find;
 use text::word::PLAN;
 
+// A plan file has at most this many bytes.
+const MOST_BYTES: usize = 60000;
+
 // The header, and for each of the first `count` places the byte where its line begins.
 #[derive(Clone, Copy)]
 pub struct Plan {
@@ -41,7 +44,7 @@ pub fn read(s: &[u8]) -> Reading
     ensures result_value { reading_view s.now result ≡ in_order (reading s.now) }
     ensures plan_said { PlanSaid s.now result.plan }
 {
-    if 60000 < s.len() {
+    if MOST_BYTES < s.len() {
         return refusal(1, 0);
     }
     let end = find(s, 0, b'\n');
