@@ -24,7 +24,7 @@ fn number(text: &str) -> u64 {
     text.trim().parse().unwrap_or_else(|_| panic!("no number: `{text}`"))
 }
 
-// The value of a definition, as `reportMost = 1568`.
+// The value of a definition, as `report_most = 1568`.
 fn defined(text: &str, name: &str) -> u64 {
     number(behind(text, &format!("{name} = ")))
 }
@@ -54,18 +54,18 @@ fn same(what: &str, specified: u64, header: u64, here: u64) {
 
 #[test]
 fn sizes() {
-    same("report", defined(UNPACKING, "reportMost"), in_header("REPORT_MOST"), REPORT_MOST as u64);
-    same("runs", defined(UNPACKING, "runsMost"), in_header("RUNS_MOST"), RUNS_MOST as u64);
-    same("activities", defined(PLAN, "mostActivities"), in_header("ACTIVITIES_MOST"), ACTIVITIES_MOST as u64);
-    let longest = behind(FAULTS, "too-long : ").strip_suffix(" < length s → Fault s 1 0").expect("the longest plan");
+    same("report", defined(UNPACKING, "report_most"), in_header("REPORT_MOST"), REPORT_MOST as u64);
+    same("runs", defined(UNPACKING, "runs_most"), in_header("RUNS_MOST"), RUNS_MOST as u64);
+    same("activities", defined(PLAN, "most_activities"), in_header("ACTIVITIES_MOST"), ACTIVITIES_MOST as u64);
+    let longest = behind(FAULTS, "too_long : ").strip_suffix(" < length s → Fault s 1 0").expect("the longest plan");
     same("plan", number(longest), in_header("PLAN_MOST"), PLAN_MOST as u64);
 }
 
 // The promises that the sizes are enough are stated with these names, and starts says the number, too.
 #[test]
 fn the_sizes_are_those_proved_enough() {
-    behind(UNPACKING, "pub reportRoom : (room : ℕ) → reportMost ≤ room → ");
-    behind(UNPACKING, "pub startsRoom : (k m room : ℕ) → runsMost ≤ room → ");
+    behind(UNPACKING, "pub report_room : (room : ℕ) → report_most ≤ room → ");
+    behind(UNPACKING, "pub starts_room : (k m room : ℕ) → runs_most ≤ room → ");
     let runs = behind(PROMISE, "pub runs : ");
     assert!(runs.contains(&format!("(length rs ≤ {RUNS_MOST})")), "{runs}");
 }
@@ -85,11 +85,11 @@ fn versions() {
 // The bit of a condition is its position in the specification's list, and its letter that of the same position.
 #[test]
 fn conditions() {
-    let count = defined(CONDITIONS, "conditionCount");
-    assert_eq!(behind(CONDITIONS, "allConditions = "), "2 ^ conditionCount - 1");
+    let count = defined(CONDITIONS, "condition_count");
+    assert_eq!(behind(CONDITIONS, "all_conditions = "), "2 ^ condition_count - 1");
     same("all", (1 << count) - 1, valued("CONDITIONS_ALL"), Conditions::ALL.bits() as u64);
-    let letters = behind(CONDITIONS, "conditionLetters = bytes ").trim_matches('"');
-    let list: Vec<String> = letters.chars().map(|letter| format!("meets{letter}")).collect();
+    let letters = behind(CONDITIONS, "condition_letters = bytes ").trim_matches('"');
+    let list: Vec<String> = letters.chars().map(|letter| format!("meets_{}", letter.to_ascii_lowercase())).collect();
     assert_eq!(behind(CONDITIONS, "conditions = "), list.join(" ∷ ") + " ∷ []");
     assert_eq!((letters.len() as u64, Condition::ALL.len() as u64), (count, count));
     for (c, letter) in letters.chars().enumerate() {
@@ -101,18 +101,18 @@ fn conditions() {
 #[test]
 fn refusals() {
     let numbers = [
-        ("PLAN_TOO_LONG", Reason::PlanTooLong, stated(FAULTS, "too-long", " 0")),
-        ("LINE_WRONG", Reason::LineWrong, stated(FAULTS, "act-line", "")),
-        ("MALFORMED", Reason::Malformed, stated(FORMS, "no-number", "")),
+        ("PLAN_TOO_LONG", Reason::PlanTooLong, stated(FAULTS, "too_long", " 0")),
+        ("LINE_WRONG", Reason::LineWrong, stated(FAULTS, "act_line", "")),
+        ("MALFORMED", Reason::Malformed, stated(FORMS, "no_number", "")),
         ("OUT_OF_RANGE", Reason::OutOfRange, stated(FORMS, "above", "")),
-        ("TOO_MANY_ACTIVITIES", Reason::TooManyActivities, stated(FAULTS, "line-65", "")),
-        ("ID_REPEATED", Reason::IdRepeated, stated(FAULTS, "same-id", "")),
-        ("AFTER_NOT_EARLIER", Reason::AfterNotEarlier, stated(FAULTS, "no-earlier", " (suc (suc i))")),
-        ("LIST_WRONG", Reason::ListWrong, stated(FORMS, "no-rise", "")),
-        ("HANDOVER_UNMET", Reason::HandoverUnmet, stated(FAULTS, "out-of-reach", " 0")),
+        ("TOO_MANY_ACTIVITIES", Reason::TooManyActivities, stated(FAULTS, "line_65", "")),
+        ("ID_REPEATED", Reason::IdRepeated, stated(FAULTS, "same_id", "")),
+        ("AFTER_NOT_EARLIER", Reason::AfterNotEarlier, stated(FAULTS, "no_earlier", " (suc (suc i))")),
+        ("LIST_WRONG", Reason::ListWrong, stated(FORMS, "no_rise", "")),
+        ("HANDOVER_UNMET", Reason::HandoverUnmet, stated(FAULTS, "out_of_reach_lem", " 0")),
         ("SLICE_TOO_SHORT", Reason::SliceTooShort, stated(PROMISE, "pub short", " 0) × (after ≡ lent)")),
-        ("NO_SUCH_PLACE", Reason::NoSuchPlace, stated(PROMISE, "pub noPlace", " 0")),
-        ("SET_TOO_LARGE", Reason::SetTooLarge, stated(PROMISE, "pub noSet", " 0")),
+        ("NO_SUCH_PLACE", Reason::NoSuchPlace, stated(PROMISE, "pub no_place", " 0")),
+        ("SET_TOO_LARGE", Reason::SetTooLarge, stated(PROMISE, "pub no_set", " 0")),
     ];
     assert_eq!(numbers.map(|(_, reason, _)| reason), Reason::ALL);
     assert_eq!(valued("REFUSAL_NONE"), 0);

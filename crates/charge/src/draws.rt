@@ -52,7 +52,7 @@ fn row_draw<'a>(
 // Adds what one activity draws to the draws in its ticks.
 fn add_draw(draws: &mut [u32], own: OwnDraw)
     requires heat_le_start { (own.heat ≤ own.start) × (own.start ≤ own.end) × (own.end ≤ length draws.old) }
-    requires by_index { (t : ℕ) → get_or draws.old t 0 + own.draw + own.heater < 4294967296 }
+    requires small_draws { (t : ℕ) → get_or draws.old t 0 + own.draw + own.heater < 4294967296 }
     ensures { (t : ℕ) → get_or draws.new t 0 ≡ draw_of own t + get_or draws.old t 0 }
 {
     raise_ticks(draws, own.heat, own.start, own.heater);

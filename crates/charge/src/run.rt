@@ -15,7 +15,7 @@ pub fn smaller(a: i64, b: i64) -> i64
 
 // The charge after a tick: the smaller of the capacity and the charge with the rate added and the draws taken off.
 pub fn step(c: i64, capacity: u32, rate: u32, draw: u64) -> i64
-    requires negsuc_bound { (negsuc 4611686018427387903 ≤ℤ c) × (c ≤ℤ pos 4611686018427387904) }
+    requires charge_bound { (negsuc 4611686018427387903 ≤ℤ c) × (c ≤ℤ pos 4611686018427387904) }
     requires draw_bound { draw < 1099511627776 }
     ensures { result ≡ charge_next capacity rate draw c }
 {

@@ -36,8 +36,8 @@ fn mark<'a>(
     count: u32,
     table: &mut [u16],
 )
-    requires c_lt_condition_count { (c < condition_count) × Ready header candidate ticks.now amounts.now settings.now units.now n × (count ≡ starts (header_view header) (activity_view candidate)) }
-    requires count_in_bounds { (count ≤ length table.old) × ((k : ℕ) → get_or table.old k 0 ≤ all_conditions) }
+    requires ready { (c < condition_count) × Ready header candidate ticks.now amounts.now settings.now units.now n × (count ≡ starts (header_view header) (activity_view candidate)) }
+    requires table_in_bounds { (count ≤ length table.old) × ((k : ℕ) → get_or table.old k 0 ≤ all_conditions) }
     ensures { (placed : Schedule) → Beside header candidate ticks.now amounts.now settings.now units.now n placed → Marked (meets (header_view header) placed (activity_view candidate) c) (2 ^ c) count table.old table.new }
 {
     let by = bit(c);

@@ -39,6 +39,9 @@ fn digits(s: &[u8]) -> Number
     Number::Value(value)
 }
 
+// How many digits a number may have.
+const MOST_DIGITS: usize = 10;
+
 // The number that all of s is.
 pub fn read_number(s: &[u8]) -> Number
     ensures { result ≡ number_of s.now }
@@ -46,7 +49,7 @@ pub fn read_number(s: &[u8]) -> Number
     if s.len() < 1 {
         return Number::Malformed;
     }
-    if 10 < s.len() {
+    if MOST_DIGITS < s.len() {
         return Number::Malformed;
     }
     if 1 < s.len() {

@@ -22,9 +22,9 @@ fn run_ticks(
     charge: &mut [i64],
 ) -> usize
     requires from_le_to { (from ≤ to) × (to ≤ length draws.now) × (to < length charge.old) }
-    requires pos_bound { get_or charge.old from (pos 0) ≤ℤ pos header.capacity }
-    ensures upper_bound { (result ≤ to) × Ran header (draw_more (at_tick draws.now) by) from result charge.old charge.new }
-    ensures pos_after { result < to → le_z (pos header.floor) (get_or charge.new result (pos 0)) ≡ false }
+    requires under_capacity { get_or charge.old from (pos 0) ≤ℤ pos header.capacity }
+    ensures ran_to { (result ≤ to) × Ran header (draw_more (at_tick draws.now) by) from result charge.old charge.new }
+    ensures left_early { result < to → le_z (pos header.floor) (get_or charge.new result (pos 0)) ≡ false }
 {
     let floor = header.floor as i64;
     let more = by as u64;
@@ -52,9 +52,9 @@ pub fn run_back(
     charge: &mut [i64],
 ) -> usize
     requires from_le_horizon { (from ≤ header.horizon) × (header.horizon ≤ length draws.now) × (header.horizon < length charge.old) × (header.horizon < length base.now) }
-    requires pos_bound { get_or charge.old from (pos 0) ≤ℤ pos header.capacity }
-    ensures upper_bound { (result ≤ header.horizon) × Ran header (at_tick draws.now) from result charge.old charge.new }
-    ensures fact { result < header.horizon → (le_z (pos header.floor) (get_or charge.new result (pos 0)) ≡ false) ⊎ (get_or charge.new result (pos 0) ≡ get_or base.now result (pos 0)) }
+    requires under_capacity { get_or charge.old from (pos 0) ≤ℤ pos header.capacity }
+    ensures ran_to { (result ≤ header.horizon) × Ran header (at_tick draws.now) from result charge.old charge.new }
+    ensures left_early { result < header.horizon → (le_z (pos header.floor) (get_or charge.new result (pos 0)) ≡ false) ⊎ (get_or charge.new result (pos 0) ≡ get_or base.now result (pos 0)) }
 {
     let horizon = header.horizon as usize;
     let floor = header.floor as i64;
@@ -88,9 +88,9 @@ pub fn fill_charges(draws: &[u32], header: Header, charge: &mut [i64])
 // Runs the charge on through the ticks in which one activity draws, to its end or the first tick under the floor.
 pub fn run_own(draws: &[u32], header: Header, own: OwnDraw, charge: &mut [i64]) -> usize
     requires heat_le_start { (own.heat ≤ own.start) × (own.start ≤ own.end) × (own.end ≤ length draws.now) × (own.end < length charge.old) }
-    requires pos_bound { get_or charge.old own.heat (pos 0) ≤ℤ pos header.capacity }
-    ensures upper_bound { (result ≤ own.end) × Ran header (draw_with (at_tick draws.now) own) own.heat result charge.old charge.new }
-    ensures pos_after { result < own.end → le_z (pos header.floor) (get_or charge.new result (pos 0)) ≡ false }
+    requires under_capacity { get_or charge.old own.heat (pos 0) ≤ℤ pos header.capacity }
+    ensures ran_to { (result ≤ own.end) × Ran header (draw_with (at_tick draws.now) own) own.heat result charge.old charge.new }
+    ensures left_early { result < own.end → le_z (pos header.floor) (get_or charge.new result (pos 0)) ≡ false }
 {
     let heat = own.heat;
     let start = own.start;

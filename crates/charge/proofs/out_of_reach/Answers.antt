@@ -23,7 +23,7 @@ pub step-c-requires : goal.step-c-requires
 step-c-requires c =
     let i = c.loop-t.invariant in
     record {
-      negsuc_bound = omega (signed, i.2, i.3);
+      charge_bound = omega (signed, i.2, i.3);
       draw_bound = omega arith;
     }
 

@@ -84,14 +84,14 @@ run_own-ended-requires c =
     let r = c.requires in
     record {
       heat_le_start = omega (arith, begun_size a.header a.draws.now a.base.now a.trial.now a.own r.drawing r.heat_le_start c.trial-1.given, r.drawing.0.known, r.drawing.0.short);
-      pos_bound = begun_most a.header a.draws.now a.base.now a.trial.now a.own r.drawing r.heat_le_start c.trial-1.given;
+      under_capacity = begun_most a.header a.draws.now a.base.now a.trial.now a.own r.drawing r.heat_le_start c.trial-1.given;
     }
 
 pub returns-then-ended-end : goal.returns-then-ended-end
 returns-then-ended-end c =
     let r = c.requires in
     let e = c.run_own-ended.ensures in
-    sym (owned_under _ _ _ _ _ r.drawing r.heat_le_start c.trial-1.given _ _ e.upper_bound.1 (omega arith) (e.pos_after c.if-ended-end.true))
+    sym (owned_under _ _ _ _ _ r.drawing r.heat_le_start c.trial-1.given _ _ e.ran_to.1 (omega arith) (e.left_early c.if-ended-end.true))
 
 pub run_back-t-requires : goal.run_back-t-requires
 run_back-t-requires c =
@@ -99,15 +99,15 @@ run_back-t-requires c =
     let e = c.run_own-ended.ensures in
     let z : c.run_own-ended.result ≡ c.args.own.end = omega arith in
     record {
-      from_le_horizon = omega (arith, owned_size _ _ _ _ _ r.drawing r.heat_le_start c.trial-1.given _ _ e.upper_bound.1, r.drawing.0.known, r.drawing.0.short, r.drawing.1.size);
-      pos_bound = rw (← z) (owned_most _ _ _ _ _ r.drawing r.heat_le_start c.trial-1.given _ _ e.upper_bound.1);
+      from_le_horizon = omega (arith, owned_size _ _ _ _ _ r.drawing r.heat_le_start c.trial-1.given _ _ e.ran_to.1, r.drawing.0.known, r.drawing.0.short, r.drawing.1.size);
+      under_capacity = rw (← z) (owned_most _ _ _ _ _ r.drawing r.heat_le_start c.trial-1.given _ _ e.ran_to.1);
     }
 
 pub returns-then-last-b : goal.returns-then-last-b
 returns-then-last-b c =
     let r = c.requires in
     let z : c.run_own-ended.result ≡ c.args.own.end = omega arith in
-    sym (back_same _ _ _ _ _ r.drawing r.heat_le_start c.trial-1.given _ _ c.run_own-ended.ensures.upper_bound.1 z _ _ c.run_back-t.ensures.upper_bound.1 c.run_back-t.ensures.upper_bound.0
+    sym (back_same _ _ _ _ _ r.drawing r.heat_le_start c.trial-1.given _ _ c.run_own-ended.ensures.ran_to.1 z _ _ c.run_back-t.ensures.ran_to.1 c.run_back-t.ensures.ran_to.0
     (sym (to_z-of_z {w = w64} (record { sfits = c.last-1.given })) ∙ ap (to_z w64) c.if-last-b.true ∙ to_z-of_z {w = w64} (record { sfits = c.b-1.given })))
 
 pub returns-then-header-last : goal.returns-then-header-last
@@ -119,8 +119,8 @@ returns-then-header-last c =
     let x = get_or c.run_back-t.new.charge c.run_back-t.result (pos 0) in
     let f : le_z (pos h.floor) x ≡ true = sym (read_le h.floor x (omega arith) c.last-1.given) ∙ c.if-header-last.true in
     let n : c.run_back-t.result ≡ h.horizon =
-    ⊎_elim (λ e. e) (λ l. absurd (⊎_elim (both_ways f) (λ q. c.if-last-b.false (ap (of_z w64) q)) (b.fact l))) (eq-or-lt_of_le b.upper_bound.0) in
-    read_le h.handover x (omega arith) c.last-1.given ∙ sym (back_last _ _ _ _ _ r.drawing r.heat_le_start c.trial-1.given _ _ c.run_own-ended.ensures.upper_bound.1 z _ _ b.upper_bound.1 b.upper_bound.0 n f)
+    ⊎_elim (λ e. e) (λ l. absurd (⊎_elim (both_ways f) (λ q. c.if-last-b.false (ap (of_z w64) q)) (b.left_early l))) (eq-or-lt_of_le b.ran_to.0) in
+    read_le h.handover x (omega arith) c.last-1.given ∙ sym (back_last _ _ _ _ _ r.drawing r.heat_le_start c.trial-1.given _ _ c.run_own-ended.ensures.ran_to.1 z _ _ b.ran_to.1 b.ran_to.0 n f)
 
 pub returns : goal.returns
 returns c =
@@ -129,5 +129,5 @@ returns c =
     let b = c.run_back-t.ensures in
     let z : c.run_own-ended.result ≡ c.args.own.end = omega arith in
     let x = get_or c.run_back-t.new.charge c.run_back-t.result (pos 0) in
-    sym (back_under _ _ _ _ _ r.drawing r.heat_le_start c.trial-1.given _ _ c.run_own-ended.ensures.upper_bound.1 z _ _ b.upper_bound.1 b.upper_bound.0
+    sym (back_under _ _ _ _ _ r.drawing r.heat_le_start c.trial-1.given _ _ c.run_own-ended.ensures.ran_to.1 z _ _ b.ran_to.1 b.ran_to.0
     (sym (read_le h.floor x (omega arith) c.last-1.given) ∙ c.if-header-last.false))

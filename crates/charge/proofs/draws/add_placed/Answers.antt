@@ -17,7 +17,7 @@ add_draw-requires c =
     let p = c.requires.ticks_bounded in
     let w = row_within s.header s.ticks.now s.amounts.now s.n c.loop-i.i _ c.row_draw.ensures p.0 p.1 (omega arith) in record {
       heat_le_start = omega (arith, c.loop-i.invariant.1, w.0, w.1, w.2);
-      by_index = λ t. omega (arith, c.loop-i.invariant.2 t, drawn_few s.header s.ticks.now s.amounts.now _ c.loop-i.i p.1 p.2 (omega arith) t, p.0.few, w.3, w.4);
+      small_draws = λ t. omega (arith, c.loop-i.invariant.2 t, drawn_few s.header s.ticks.now s.amounts.now _ c.loop-i.i p.1 p.2 (omega arith) t, p.0.few, w.3, w.4);
     }
 
 pub loop-i-preserved : goal.loop-i-preserved

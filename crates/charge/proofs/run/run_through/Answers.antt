@@ -22,7 +22,7 @@ step-c-requires c =
     let low = kept_charge _ _ c.requires.kept c.loop-t.t c.loop-t.invariant.0 in
     let high = charge_most c.args.header (at_tick c.args.draws.now) c.loop-t.t c.requires.first in
     record {
-      negsuc_bound = (rw c.loop-t.invariant.1 (omega signed), rw c.loop-t.invariant.1 (omega signed));
+      charge_bound = (rw c.loop-t.invariant.1 (omega signed), rw c.loop-t.invariant.1 (omega signed));
       draw_bound = omega (arith, c.wide.ensures.1);
     }
 

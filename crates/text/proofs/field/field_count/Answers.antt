@@ -1,6 +1,5 @@
 -- `field::field_count` meets its contract.
 use mathlib.Core.Path.{ap}
-use Prim.Native.Nat.{◌-◌}
 use native.Mathlib.Omega.{arith}
 use lib.ListN.{length}
 use Rattle.text.proofs.Parts.{parts_more, parts_last}

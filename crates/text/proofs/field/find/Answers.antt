@@ -1,5 +1,4 @@
 -- `field::find` meets its contract.
-use Prim.Native.Nat.{◌-◌}
 use native.Mathlib.Omega.{arith}
 use Rattle.text.proofs.Parts.{index_hit, index_miss, index_none}
 use Rattle.text.proofs.field.find.Goals as goal

@@ -23,9 +23,9 @@ next l e h =
 pub returns-then-is : goal.returns-then-is
 unfolding list_view list_field
 returns-then-is c = record {
-      result_value = rw (c.no_items.ensures.0, c.no_items.ensures.1, sym c.is.ensures ∙ c.if-is.true);
-      count_le_most = omega (arith, c.no_items.ensures.1);
-    }
+  result_value = rw (c.no_items.ensures.0, c.no_items.ensures.1, sym c.is.ensures ∙ c.if-is.true);
+  count_le_most = omega (arith, c.no_items.ensures.1);
+}
 
 pub loop-a-init : goal.loop-a-init
 unfolding list_field

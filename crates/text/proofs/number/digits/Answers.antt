@@ -1,6 +1,5 @@
 -- `number::digits` meets its contract.
 use mathlib.Core.Path.{refl, ◌∙◌, sym}
-use Prim.Native.Nat.{◌-◌}
 use native.Mathlib.Omega.{arith}
 use Rattle.text.proofs.Digits.{digit_more, digit_low, digit_high, digit_none, ten_more, ten_below}
 use Rattle.text.proofs.number.digits.Goals as goal

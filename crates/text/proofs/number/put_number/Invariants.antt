@@ -1,6 +1,6 @@
 -- `number::put_number` meets its contract: the digits of y, put at `at`, give what is asked.
 use mathlib.Core.Path.{◌≡◌}
-use Prim.Native.Nat.{◌+◌, ◌-◌, ◌≤◌}
+use Prim.Native.Nat.{◌+◌, ◌≤◌}
 use lib.ListN.{length}
 use Rattle.text.specs.Text.{put}
 use Rattle.rules.specs.Number.{decimal}

@@ -1,4 +1,6 @@
 -- `number::read_number` meets its contract.
+use native.Mathlib.Omega.{arith}
+use lib.ListN.{length}
 use borrow.Author.Tests.{le-leb, lt-leb, lt-ltb, le-ltb, eq-eqb, ne_eqb}
 use Rattle.text.specs.Text.{number_of}
 use Rattle.rules.specs.Number.{is_number, leading_zero, value_of}
@@ -10,19 +12,19 @@ pub returns-then-s-lt1 : goal.returns-then-s-lt1
 unfolding number_of is_number leading_zero
 returns-then-s-lt1 c = simp (lt-leb _ _ c.if-s-lt1.true)
 
-pub returns-then-s-gt10 : goal.returns-then-s-gt10
+pub returns-then-s-gt-MOST_DIGITS : goal.returns-then-s-gt-MOST_DIGITS
 unfolding number_of is_number leading_zero
-returns-then-s-gt10 c = simp (le-leb _ _ c.if-s-lt1.false, lt-leb _ _ c.if-s-gt10.true)
+returns-then-s-gt-MOST_DIGITS c = simp (le-leb _ _ c.if-s-lt1.false, lt-leb (length c.args.s.now) 10 (omega arith))
 
 pub returns-then-s-eq48 : goal.returns-then-s-eq48
 unfolding number_of is_number leading_zero
 returns-then-s-eq48 c =
-    simp (le-leb _ _ c.if-s-lt1.false, le-leb _ _ c.if-s-gt10.false, lt-ltb _ _ c.if-s-gt1.true, eq-eqb _ _ c.if-s-eq48.true)
+    simp (le-leb _ _ c.if-s-lt1.false, le-leb (length c.args.s.now) 10 (omega arith), lt-ltb _ _ c.if-s-gt1.true, eq-eqb _ _ c.if-s-eq48.true)
 
 pub returns : goal.returns
 unfolding number_of is_number leading_zero value_of digits_from
 returns c =
     elim c.if-s-gt1.branch [
-      then-s-gt1+else-s-eq48 w ↦ simp (le-leb _ _ c.if-s-lt1.false, le-leb _ _ c.if-s-gt10.false, lt-ltb _ _ w.if-s-gt1.true, ne_eqb _ _ w.if-s-eq48.false) c.digits.ensures
-      | else-s-gt1 w ↦ simp (le-leb _ _ c.if-s-lt1.false, le-leb _ _ c.if-s-gt10.false, le-ltb _ _ w.if-s-gt1.false) c.digits.ensures
+      | then-s-gt1+else-s-eq48 w ↦ simp (le-leb _ _ c.if-s-lt1.false, le-leb (length c.args.s.now) 10 (omega arith), lt-ltb _ _ w.if-s-gt1.true, ne_eqb _ _ w.if-s-eq48.false) c.digits.ensures
+      | else-s-gt1 w ↦ simp (le-leb _ _ c.if-s-lt1.false, le-leb (length c.args.s.now) 10 (omega arith), le-ltb _ _ w.if-s-gt1.false) c.digits.ensures
     ]

@@ -1,6 +1,5 @@
 -- `word::is` meets its contract.
 use mathlib.Core.Path.{refl, ◌∙◌, sym}
-use Prim.Native.Nat.{◌-◌}
 use native.Mathlib.Omega.{arith}
 use Rattle.text.proofs.Same.{same_long, same_hit, same_miss, same_none}
 use Rattle.text.proofs.word.is.Goals as goal

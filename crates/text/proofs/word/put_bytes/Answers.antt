@@ -1,6 +1,5 @@
 -- `word::put_bytes` meets its contract: what is left of src, put where o stands, gives what is asked.
 use mathlib.Core.Path.{refl, ◌∙◌, sym, ap}
-use Prim.Native.Nat.{◌-◌}
 use native.Mathlib.Omega.{arith}
 use lib.ListN.{length-set, drop_of_length-le}
 use Rattle.text.specs.Text.{put}

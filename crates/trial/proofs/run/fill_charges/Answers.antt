@@ -23,14 +23,14 @@ pub run_ticks-requires : goal.run_ticks-requires
 run_ticks-requires c =
     record {
       from_le_to = omega (arith, length-set c.args.charge.now 0 (to_z w64 c.args.header.first), c.requires.1, c.requires.0.known, c.requires.0.short);
-      pos_bound = rw (first-is (goal.at.run_ticks-requires c).Start) (omega (signed, c.requires.0.first));
+      under_capacity = rw (first-is (goal.at.run_ticks-requires c).Start) (omega (signed, c.requires.0.first));
     }
 
 pub shape_of-charge : goal.shape_of-charge
 shape_of-charge c =
-    c.run_ticks.ensures.upper_bound.1.size ∙ length-set c.args.charge.now 0 (to_z w64 c.args.header.first)
+    c.run_ticks.ensures.ran_to.1.size ∙ length-set c.args.charge.now 0 (to_z w64 c.args.header.first)
 
 pub returns : goal.returns
 returns c =
     let e = c.run_ticks.ensures in
-    record { size = c.run_ticks.ensures.upper_bound.1.size ∙ length-set c.args.charge.now 0 (to_z w64 c.args.header.first) ∙ c.requires.1; at = ran_whole _ _ _ _ _ c.requires.0.kept (first-is (goal.at.returns c).Start) e.upper_bound.0 (ran_same _ _ _ _ _ _ _ (λ t _ _. draws_alone _ t) e.upper_bound.1) e.pos_after }
+    record { size = c.run_ticks.ensures.ran_to.1.size ∙ length-set c.args.charge.now 0 (to_z w64 c.args.header.first) ∙ c.requires.1; at = ran_whole _ _ _ _ _ c.requires.0.kept (first-is (goal.at.returns c).Start) e.ran_to.0 (ran_same _ _ _ _ _ _ _ (λ t _ _. draws_alone _ t) e.ran_to.1) e.left_early }

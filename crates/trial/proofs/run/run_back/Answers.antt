@@ -12,12 +12,12 @@ use Rattle.trial.proofs.run.run_back.Goals as goal
 
 pub ticks-init : goal.ticks-init
 ticks-init c =
-    (c.requires.from_le_horizon.0, tick_first _ _ _ _ (omega arith) c.c-1.given c.requires.pos_bound)
+    (c.requires.from_le_horizon.0, tick_first _ _ _ _ (omega arith) c.c-1.given c.requires.under_capacity)
 
 pub step-c-requires : goal.step-c-requires
 step-c-requires c =
     let r = tick_range _ _ _ _ _ _ _ c.ticks.invariant.1 c.if-floor-c.true in
-    record { negsuc_bound = omega (signed, r.0, r.1); draw_bound = omega arith }
+    record { charge_bound = omega (signed, r.0, r.1); draw_bound = omega arith }
 
 pub bounds-charge-t : goal.bounds-charge-t
 bounds-charge-t c = omega (arith, c.ticks.invariant.1.ran.size)
@@ -34,8 +34,8 @@ shape_of-charge-after-ticks c = c.ticks.invariant.1.ran.size
 
 pub returns-after-ticks : goal.returns-after-ticks
 returns-after-ticks c = record {
-  upper_bound = (c.ticks.invariant.0, c.ticks.invariant.1.ran);
-  fact = λ l. absurd (omega arith);
+  ran_to = (c.ticks.invariant.0, c.ticks.invariant.1.ran);
+  left_early = λ l. absurd (omega arith);
 }
 
 pub shape_of-charge-then-c-b : goal.shape_of-charge-then-c-b
@@ -44,8 +44,8 @@ shape_of-charge-then-c-b c = c.ticks.invariant.1.ran.size
 pub returns-then-c-b : goal.returns-then-c-b
 returns-then-c-b c =
     record {
-      upper_bound = (c.ticks.invariant.0, c.ticks.invariant.1.ran);
-      fact = λ _. inr (sym c.ticks.invariant.1.is ∙ ap (to_z w64) c.if-c-b.true ∙ to_z-of_z {w = w64} (record { sfits = c.b-1.given }));
+      ran_to = (c.ticks.invariant.0, c.ticks.invariant.1.ran);
+      left_early = λ _. inr (sym c.ticks.invariant.1.is ∙ ap (to_z w64) c.if-c-b.true ∙ to_z-of_z {w = w64} (record { sfits = c.b-1.given }));
     }
 
 pub shape_of-charge-else-floor-c : goal.shape_of-charge-else-floor-c
@@ -54,6 +54,6 @@ shape_of-charge-else-floor-c c = c.ticks.invariant.1.ran.size
 pub returns-else-floor-c : goal.returns-else-floor-c
 returns-else-floor-c c =
     record {
-      upper_bound = (c.ticks.invariant.0, c.ticks.invariant.1.ran);
-      fact = λ _. inl (sym (tick_floor _ _ _ _ _ _ _ c.ticks.invariant.1) ∙ c.if-floor-c.false);
+      ran_to = (c.ticks.invariant.0, c.ticks.invariant.1.ran);
+      left_early = λ _. inl (sym (tick_floor _ _ _ _ _ _ _ c.ticks.invariant.1) ∙ c.if-floor-c.false);
     }

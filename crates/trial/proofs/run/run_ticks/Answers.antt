@@ -12,7 +12,7 @@ use Rattle.trial.proofs.run.run_ticks.Goals as goal
 
 pub ticks-init : goal.ticks-init
 ticks-init c =
-    (c.requires.from_le_to.0, tick_first _ _ _ _ (omega arith) c.c-1.given c.requires.pos_bound)
+    (c.requires.from_le_to.0, tick_first _ _ _ _ (omega arith) c.c-1.given c.requires.under_capacity)
 
 -- left at the first tick under the floor
 pub shape_of-charge-else-floor-c : goal.shape_of-charge-else-floor-c
@@ -21,14 +21,14 @@ shape_of-charge-else-floor-c c = c.ticks.invariant.1.ran.size
 pub returns-else-floor-c : goal.returns-else-floor-c
 returns-else-floor-c c =
     record {
-      upper_bound = (c.ticks.invariant.0, c.ticks.invariant.1.ran);
-      pos_after = λ _. sym (tick_floor _ _ _ _ _ _ _ c.ticks.invariant.1) ∙ c.if-floor-c.false;
+      ran_to = (c.ticks.invariant.0, c.ticks.invariant.1.ran);
+      left_early = λ _. sym (tick_floor _ _ _ _ _ _ _ c.ticks.invariant.1) ∙ c.if-floor-c.false;
     }
 
 pub step-c-requires : goal.step-c-requires
 step-c-requires c =
     let r = tick_range _ _ _ _ _ _ _ c.ticks.invariant.1 c.if-floor-c.true in
-    record { negsuc_bound = omega (signed, r.0, r.1); draw_bound = omega arith }
+    record { charge_bound = omega (signed, r.0, r.1); draw_bound = omega arith }
 
 pub bounds-charge-t : goal.bounds-charge-t
 bounds-charge-t c = omega (arith, c.ticks.invariant.1.ran.size)
@@ -46,6 +46,6 @@ shape_of-charge-after-ticks c = c.ticks.invariant.1.ran.size
 
 pub returns-after-ticks : goal.returns-after-ticks
 returns-after-ticks c = record {
-  upper_bound = (c.ticks.invariant.0, c.ticks.invariant.1.ran);
-  pos_after = λ l. absurd (omega arith);
+  ran_to = (c.ticks.invariant.0, c.ticks.invariant.1.ran);
+  left_early = λ l. absurd (omega arith);
 }
