@@ -28,8 +28,8 @@ pub struct Times {
 // Fields 1 to 4 of a line l, from byte `at` on, in a plan of this horizon.
 fn read_times(l: &[u8], at: usize, horizon: u32) -> Times
     requires { at ≤ length l.now }
-    ensures next_in_bounds { result.next ≤ length l.now }
-    ensures by_index { (fs : List (List ℕ)) → FieldsFrom fs 1 l.now at → ((next : ℕ → ℕ → ℕ → ℕ → Read ActivityValue) → times_then horizon fs next ≡ unless result.fault (next result.id result.priority result.duration result.preferred)) × FieldsUnless result.fault fs 5 l.now result.next }
+    ensures within_line { result.next ≤ length l.now }
+    ensures reads_fields { (fs : List (List ℕ)) → FieldsFrom fs 1 l.now at → ((next : ℕ → ℕ → ℕ → ℕ → Read ActivityValue) → times_then horizon fs next ≡ unless result.fault (next result.id result.priority result.duration result.preferred)) × FieldsUnless result.fault fs 5 l.now result.next }
 {
     let id = number_field(0, l, at, 0, 65535);
     let priority = number_field(id.fault, l, id.next, 0, 65535);
@@ -147,8 +147,8 @@ pub struct ListsRead {
 // Fields 5 to 9 of a line l, from byte `at` on, behind fields with this fault; the activity's numbers are 0.
 fn read_lists(fault: u32, l: &[u8], at: usize) -> ListsRead
     requires { at ≤ length l.now }
-    ensures next_in_bounds { (result.next ≤ length l.now) × Sized result.activity }
-    ensures by_index { (fs : List (List ℕ)) → FieldsUnless fault fs 5 l.now at → ((next : List Window → List ℕ → List ℕ → List Setting → List Setting → Read ActivityValue) → unless fault (lists_then fs next) ≡ unless result.fault (next (activity_view result.activity).windows (activity_view result.activity).after (activity_view result.activity).units (activity_view result.activity).needs (activity_view result.activity).sets)) × FieldsUnless result.fault fs 10 l.now result.next }
+    ensures within_line { (result.next ≤ length l.now) × Sized result.activity }
+    ensures reads_fields { (fs : List (List ℕ)) → FieldsUnless fault fs 5 l.now at → ((next : List Window → List ℕ → List ℕ → List Setting → List Setting → Read ActivityValue) → unless fault (lists_then fs next) ≡ unless result.fault (next (activity_view result.activity).windows (activity_view result.activity).after (activity_view result.activity).units (activity_view result.activity).needs (activity_view result.activity).sets)) × FieldsUnless result.fault fs 10 l.now result.next }
 {
     let w = list_field(fault, l, at, windows());
     let a = list_field(w.list.fault, l, w.next, numbers(65535, 8));

@@ -58,8 +58,8 @@ pub struct FieldEnd {
 // The field of the line l that begins at `at`.
 pub fn field_from(l: &[u8], at: usize) -> FieldEnd
     requires { at ≤ length l.now }
-    ensures at_le_end { (at ≤ result.end) × (result.end ≤ length l.now) × (result.next ≤ length l.now) }
-    ensures by_index { (fs : List (List ℕ)) (k : ℕ) → FieldsFrom fs k l.now at → (take (result.end - at) (drop at l.now) ≡ field fs k) × FieldsFrom fs (k + 1) l.now result.next }
+    ensures within_line { (at ≤ result.end) × (result.end ≤ length l.now) × (result.next ≤ length l.now) }
+    ensures reads_field { (fs : List (List ℕ)) (k : ℕ) → FieldsFrom fs k l.now at → (take (result.end - at) (drop at l.now) ≡ field fs k) × FieldsFrom fs (k + 1) l.now result.next }
 {
     let end = find(l, at, b'\t');
     if end == l.len() {
@@ -79,8 +79,8 @@ pub struct NumberNext {
 // The field of the line l that begins at `at`, a number from lo to hi, behind fields with this fault.
 pub fn number_field(fault: u32, l: &[u8], at: usize, lo: u32, hi: u32) -> NumberNext
     requires { at ≤ length l.now }
-    ensures next_in_bounds { result.next ≤ length l.now }
-    ensures by_index { (fs : List (List ℕ)) (k : ℕ) → FieldsUnless fault fs k l.now at → (unless result.fault (value result.value) ≡ unless fault (number_field lo hi (field fs k))) × FieldsUnless result.fault fs (k + 1) l.now result.next }
+    ensures within_line { result.next ≤ length l.now }
+    ensures reads_field { (fs : List (List ℕ)) (k : ℕ) → FieldsUnless fault fs k l.now at → (unless result.fault (value result.value) ≡ unless fault (number_field lo hi (field fs k))) × FieldsUnless result.fault fs (k + 1) l.now result.next }
 {
     if fault != 0 {
         return NumberNext {
@@ -109,8 +109,8 @@ pub struct ListNext {
 // The field of the line l that begins at `at`, a list of this form, behind fields with this fault.
 pub fn list_field(fault: u32, l: &[u8], at: usize, form: Form) -> ListNext
     requires { (at ≤ length l.now) × (form.most ≤ 32) }
-    ensures next_in_bounds { (result.next ≤ length l.now) × (result.list.count ≤ form.most) }
-    ensures by_index { (fs : List (List ℕ)) (k : ℕ) → FieldsUnless fault fs k l.now at → (list_view result.list ≡ unless fault (list_field (kind_of form) (field fs k))) × FieldsUnless result.list.fault fs (k + 1) l.now result.next }
+    ensures within_line { (result.next ≤ length l.now) × (result.list.count ≤ form.most) }
+    ensures reads_field { (fs : List (List ℕ)) (k : ℕ) → FieldsUnless fault fs k l.now at → (list_view result.list ≡ unless fault (list_field (kind_of form) (field fs k))) × FieldsUnless result.list.fault fs (k + 1) l.now result.next }
 {
     if fault != 0 {
         let list = no_items(fault);

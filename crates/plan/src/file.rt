@@ -73,8 +73,8 @@ fn push(t: Lines, line: Line) -> Lines
 
 // The next line of s, from byte `at` to its LF at byte `end`, in a plan with the header h.
 fn add_line(t: Lines, s: &[u8], at: usize, end: usize, h: Header) -> Lines
-    requires number_value { (t.number ≡ 0) × Collected (header_view h) s.now t }
-    requires s_len_bound { (length s.now ≤ 60000) × (end < length s.now) × (at ≤ end) × (end ≡ at + index_of 10 (drop at s.now)) }
+    requires collected { (t.number ≡ 0) × Collected (header_view h) s.now t }
+    requires at_next_lf { (length s.now ≤ 60000) × (end < length s.now) × (at ≤ end) × (end ≡ at + index_of 10 (drop at s.now)) }
     ensures { Collected (header_view h) s.now result × ((line : List ℕ) (rest : List (List ℕ)) → ended line ≡ true → fields line ≡ split_on 9 (take (end - at) (drop at s.now)) → lines_from (header_view h) s.now t (line ∷ rest) ≡ lines_from (header_view h) s.now result rest) }
 {
     let l = &s[at..end];

@@ -77,30 +77,30 @@ mark_warmup-requires c =
     markable _ _ _ _ _ _ _ _ e _ B _ _ c.bit-by.ensures.1 c.requires.table_in_bounds.0 c.requires.table_in_bounds.1
 
 pub returns-in-0 : goal.returns-in-0
-returns-in-0 c = λ placed B. picked _ _ _ _ 0 _ _ _ _ _ c.requires.ready.0 c.in-0.is c.bit-by.ensures.0 (windows_are _ _ _ _ _ _ _ _ c.requires.ready.2 placed B) c.mark_windows.ensures
+returns-in-0 c = λ placed B. picked _ _ _ _ 0 _ _ _ _ _ c.requires.ready.0 c.in-0.is c.bit-by.ensures.0 (windows_are _ _ _ _ _ _ _ _ c.requires.ready.2 placed B) (search rules)
 
 pub returns-in-1 : goal.returns-in-1
 returns-in-1 c = λ placed B.
     let long : length c.args.candidate.after ≡ 8 = search rules in
-    picked _ _ _ _ 1 _ _ _ _ _ c.requires.ready.0 c.in-1.is c.bit-by.ensures.0 (after_are _ _ _ _ _ _ _ _ c.requires.ready.2 placed B (omega (arith, B.sized.after))) c.mark_after.ensures
+    picked _ _ _ _ 1 _ _ _ _ _ c.requires.ready.0 c.in-1.is c.bit-by.ensures.0 (after_are _ _ _ _ _ _ _ _ c.requires.ready.2 placed B (omega (arith, B.sized.after))) (search rules)
 
 pub returns-in-2 : goal.returns-in-2
-returns-in-2 c = λ placed B. picked _ _ _ _ 2 _ _ _ _ _ c.requires.ready.0 c.in-2.is c.bit-by.ensures.0 (units_are _ _ _ _ _ _ _ _ c.requires.ready.2 placed B) c.mark_units.ensures
+returns-in-2 c = λ placed B. picked _ _ _ _ 2 _ _ _ _ _ c.requires.ready.0 c.in-2.is c.bit-by.ensures.0 (units_are _ _ _ _ _ _ _ _ c.requires.ready.2 placed B) (search rules)
 
 pub returns-in-3 : goal.returns-in-3
-returns-in-3 c = λ placed B. picked _ _ _ _ 3 _ _ _ _ _ c.requires.ready.0 c.in-3.is c.bit-by.ensures.0 (state_is _ _ _ _ _ _ _ _ c.requires.ready.2 placed B) c.mark_state.ensures
+returns-in-3 c = λ placed B. picked _ _ _ _ 3 _ _ _ _ _ c.requires.ready.0 c.in-3.is c.bit-by.ensures.0 (state_is _ _ _ _ _ _ _ _ c.requires.ready.2 placed B) (search rules)
 
 pub returns-in-4 : goal.returns-in-4
-returns-in-4 c = λ placed B. picked _ _ _ _ 4 _ _ _ _ _ c.requires.ready.0 c.in-4.is c.bit-by.ensures.0 (engines_are _ _ _ _ _ _ _ _ c.requires.ready.2 placed B) c.mark_engines.ensures
+returns-in-4 c = λ placed B. picked _ _ _ _ 4 _ _ _ _ _ c.requires.ready.0 c.in-4.is c.bit-by.ensures.0 (engines_are _ _ _ _ _ _ _ _ c.requires.ready.2 placed B) (search rules)
 
 pub returns-in-5 : goal.returns-in-5
-returns-in-5 c = λ placed B. picked _ _ _ _ 5 _ _ _ _ _ c.requires.ready.0 c.in-5.is c.bit-by.ensures.0 (peaks_are _ _ _ _ _ _ _ _ c.requires.ready.2 placed B) c.mark_peaks.ensures
+returns-in-5 c = λ placed B. picked _ _ _ _ 5 _ _ _ _ _ c.requires.ready.0 c.in-5.is c.bit-by.ensures.0 (peaks_are _ _ _ _ _ _ _ _ c.requires.ready.2 placed B) (search rules)
 
 pub returns-in-6 : goal.returns-in-6
-returns-in-6 c = λ placed B. picked _ _ _ _ 6 _ _ _ _ _ c.requires.ready.0 c.in-6.is c.bit-by.ensures.0 (charge_is _ _ _ _ _ _ _ _ c.requires.ready.2 placed B) c.mark_charge.ensures
+returns-in-6 c = λ placed B. picked _ _ _ _ 6 _ _ _ _ _ c.requires.ready.0 c.in-6.is c.bit-by.ensures.0 (charge_is _ _ _ _ _ _ _ _ c.requires.ready.2 placed B) (search rules)
 
 pub returns-in-7 : goal.returns-in-7
-returns-in-7 c = λ placed B. picked _ _ _ _ 7 _ _ _ _ _ c.requires.ready.0 c.in-7.is c.bit-by.ensures.0 (volume_is _ _ _ _ _ _ _ _ c.requires.ready.2 placed B) c.mark_volume.ensures
+returns-in-7 c = λ placed B. picked _ _ _ _ 7 _ _ _ _ _ c.requires.ready.0 c.in-7.is c.bit-by.ensures.0 (volume_is _ _ _ _ _ _ _ _ c.requires.ready.2 placed B) (search rules)
 
 pub returns-in-8 : goal.returns-in-8
-returns-in-8 c = λ placed B. picked _ _ _ _ 8 _ _ _ _ _ c.requires.ready.0 c.in-8.is c.bit-by.ensures.0 (warmup_is _ _ _ _ _ _ _ _ c.requires.ready.2 placed B) c.mark_warmup.ensures
+returns-in-8 c = λ placed B. picked _ _ _ _ 8 _ _ _ _ _ c.requires.ready.0 c.in-8.is c.bit-by.ensures.0 (warmup_is _ _ _ _ _ _ _ _ c.requires.ready.2 placed B) (search rules)

@@ -23,19 +23,19 @@ list_field-s-requires c = (omega arith, rw c.settings-2.ensures (omega arith))
 
 pub with_lists-activity-requires : goal.with_lists-activity-requires
 with_lists-activity-requires c =
-    (rw c.windows.ensures at c.list_field-w.ensures.next_in_bounds.1, rw c.numbers.ensures at c.list_field-a.ensures.next_in_bounds.1, rw c.numbers-2.ensures at c.list_field-u.ensures.next_in_bounds.1, rw c.settings.ensures at c.list_field-n.ensures.next_in_bounds.1, rw c.settings-2.ensures at c.list_field-s.ensures.next_in_bounds.1)
+    (rw c.windows.ensures at c.list_field-w.ensures.within_line.1, rw c.numbers.ensures at c.list_field-a.ensures.within_line.1, rw c.numbers-2.ensures at c.list_field-u.ensures.within_line.1, rw c.settings.ensures at c.list_field-n.ensures.within_line.1, rw c.settings-2.ensures at c.list_field-s.ensures.within_line.1)
 
 pub returns : goal.returns
 unfolding lists_then
 returns c =
     let g = c.with_lists-activity.ensures in record {
-      next_in_bounds = (c.list_field-s.ensures.next_in_bounds.0, g.sized);
-      by_index = λ fs b.
-          let b1 = c.list_field-w.ensures.by_index fs 5 b in
-          let b2 = c.list_field-a.ensures.by_index fs 6 b1.1 in
-          let b3 = c.list_field-u.ensures.by_index fs 7 b2.1 in
-          let b4 = c.list_field-n.ensures.by_index fs 8 b3.1 in
-          let b5 = c.list_field-s.ensures.by_index fs 9 b4.1 in (
+      within_line = (c.list_field-s.ensures.within_line.0, g.sized);
+      reads_fields = λ fs b.
+          let b1 = c.list_field-w.ensures.reads_field fs 5 b in
+          let b2 = c.list_field-a.ensures.reads_field fs 6 b1.1 in
+          let b3 = c.list_field-u.ensures.reads_field fs 7 b2.1 in
+          let b4 = c.list_field-n.ensures.reads_field fs 8 b3.1 in
+          let b5 = c.list_field-s.ensures.reads_field fs 9 b4.1 in (
             λ next.
                 rw (g.windows_are, g.after_are, g.units_are, g.needs_are, g.sets_are)
                 (then _ _ _ _ _ (windows_read _ _ _ _ c.windows.ensures b1.0)

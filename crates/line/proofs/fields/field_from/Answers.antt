@@ -8,8 +8,8 @@ returns-then-end-l c =
     let f = c.find-end in
     let a = c.args in
     record {
-      at_le_end = omega arith;
-      by_index = λ fs k g. (field_is fs k a.l.now a.at f.result c.requires f.ensures.value g, none_from fs k a.l.now a.at f.result c.requires f.ensures.value g (omega arith));
+      within_line = omega arith;
+      reads_field = λ fs k g. (field_is fs k a.l.now a.at f.result c.requires f.ensures.value g, none_from fs k a.l.now a.at f.result c.requires f.ensures.value g (omega arith));
     }
 
 pub returns : goal.returns
@@ -17,6 +17,6 @@ returns c =
     let f = c.find-end in
     let a = c.args in
     record {
-      at_le_end = omega arith;
-      by_index = λ fs k g. (field_is fs k a.l.now a.at f.result c.requires f.ensures.value g, next_from fs k a.l.now a.at f.result c.requires f.ensures.value g (omega arith));
+      within_line = omega arith;
+      reads_field = λ fs k g. (field_is fs k a.l.now a.at f.result c.requires f.ensures.value g, next_from fs k a.l.now a.at f.result c.requires f.ensures.value g (omega arith));
     }

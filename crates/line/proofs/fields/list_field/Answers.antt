@@ -14,8 +14,8 @@ returns-then-fault-ne0 c =
     let n = c.no_items-list.ensures in
     let t = c.if-fault-ne0.true in
     record {
-      next_in_bounds = (c.requires.0, omega (arith, n.1));
-      by_index = λ fs k b. (rw (n.0, ne_eqb _ _ t), λ z. absurd (omega (arith, n.0, t)));
+      within_line = (c.requires.0, omega (arith, n.1));
+      reads_field = λ fs k b. (rw (n.0, ne_eqb _ _ t), λ z. absurd (omega (arith, n.0, t)));
     }
 
 pub returns : goal.returns
@@ -24,7 +24,7 @@ returns c =
     let g = c.field_from-f.ensures in
     let z = c.if-fault-ne0.false in
     let a = c.args in record {
-      next_in_bounds = (g.at_le_end.2, c.read_list-list.ensures.count_le_most);
-      by_index = λ fs k b.
-          (rw (eq-eqb _ _ z) (c.read_list-list.ensures.result_value ∙ ap (list_field (kind_of a.form)) (g.by_index fs k (b z)).0), λ _. (g.by_index fs k (b z)).1);
+      within_line = (g.within_line.2, c.read_list-list.ensures.count_le_most);
+      reads_field = λ fs k b.
+          (rw (eq-eqb _ _ z) (c.read_list-list.ensures.result_value ∙ ap (list_field (kind_of a.form)) (g.reads_field fs k (b z)).0), λ _. (g.reads_field fs k (b z)).1);
     }

@@ -9,8 +9,8 @@ use Rattle.line.proofs.fields.number_field.Goals as goal
 pub returns-then-fault-ne0 : goal.returns-then-fault-ne0
 unfolding unless FieldsUnless
 returns-then-fault-ne0 c = record {
-  next_in_bounds = c.requires;
-  by_index = λ fs k b. (rw (ne_eqb _ _ c.if-fault-ne0.true), λ z. absurd (c.if-fault-ne0.true z));
+  within_line = c.requires;
+  reads_field = λ fs k b. (rw (ne_eqb _ _ c.if-fault-ne0.true), λ z. absurd (c.if-fault-ne0.true z));
 }
 
 pub returns : goal.returns
@@ -19,7 +19,7 @@ returns c =
     let g = c.field_from-f.ensures in
     let z = c.if-fault-ne0.false in
     let a = c.args in record {
-      next_in_bounds = g.at_le_end.2;
-      by_index = λ fs k b.
-          (rw (eq-eqb _ _ z) (c.number_in-r.ensures ∙ ap (number_field a.lo a.hi) (g.by_index fs k (b z)).0), λ _. (g.by_index fs k (b z)).1);
+      within_line = g.within_line.2;
+      reads_field = λ fs k b.
+          (rw (eq-eqb _ _ z) (c.number_in-r.ensures ∙ ap (number_field a.lo a.hi) (g.reads_field fs k (b z)).0), λ _. (g.reads_field fs k (b z)).1);
     }

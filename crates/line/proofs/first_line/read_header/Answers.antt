@@ -13,18 +13,18 @@ unfolding header_of header_view FieldsUnless
 returns c =
     let l = c.args.l.now in
     let fs = split_on 9 l in
-    let b = (c.field_from-word.ensures.by_index fs 0 (first_from l)).1 in
-    let b1 = c.number_field-horizon.ensures.by_index fs 1 (λ _. b) in
-    let b2 = c.number_field-minute.ensures.by_index fs 2 b1.1 in
-    let b3 = c.number_field-capacity.ensures.by_index fs 3 b2.1 in
-    let b4 = c.number_field-floor.ensures.by_index fs 4 b3.1 in
-    let b5 = c.number_field-first.ensures.by_index fs 5 b4.1 in
-    let b6 = c.number_field-rate.ensures.by_index fs 6 b5.1 in
-    let b7 = c.number_field-handover.ensures.by_index fs 7 b6.1 in
-    let b8 = c.number_field-engines.ensures.by_index fs 8 b7.1 in
-    let b9 = c.number_field-peak.ensures.by_index fs 9 b8.1 in
-    let b10 = c.number_field-volume.ensures.by_index fs 10 b9.1 in
-    let b11 = c.number_field-heater.ensures.by_index fs 11 b10.1 in
+    let b = (c.field_from-word.ensures.reads_field fs 0 (first_from l)).1 in
+    let b1 = c.number_field-horizon.ensures.reads_field fs 1 (λ _. b) in
+    let b2 = c.number_field-minute.ensures.reads_field fs 2 b1.1 in
+    let b3 = c.number_field-capacity.ensures.reads_field fs 3 b2.1 in
+    let b4 = c.number_field-floor.ensures.reads_field fs 4 b3.1 in
+    let b5 = c.number_field-first.ensures.reads_field fs 5 b4.1 in
+    let b6 = c.number_field-rate.ensures.reads_field fs 6 b5.1 in
+    let b7 = c.number_field-handover.ensures.reads_field fs 7 b6.1 in
+    let b8 = c.number_field-engines.ensures.reads_field fs 8 b7.1 in
+    let b9 = c.number_field-peak.ensures.reads_field fs 9 b8.1 in
+    let b10 = c.number_field-volume.ensures.reads_field fs 10 b9.1 in
+    let b11 = c.number_field-heater.ensures.reads_field fs 11 b10.1 in
     sym
     (sym (unless_none _)
     ∙ then _ _ _ _ _ b1.0

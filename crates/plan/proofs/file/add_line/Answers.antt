@@ -18,9 +18,9 @@ pub returns-then-not-formed : goal.returns-then-not-formed
 returns-then-not-formed c =
     let a = c.args in
     let g = c.requires in (
-      c.refuse.ensures.2 _ _ g.number_value.1,
+      c.refuse.ensures.2 _ _ g.collected.1,
       λ line rest e q.
-          from_refused (header_view a.h) a.s.now a.t c.refuse.result line rest g.number_value.0 2 (λ z. omega arith) c.refuse.ensures.0 c.refuse.ensures.1
+          from_refused (header_view a.h) a.s.now a.t c.refuse.result line rest g.collected.0 2 (λ z. omega arith) c.refuse.ensures.0 c.refuse.ensures.1
           (line_2 (header_view a.h) _ _ line rest (form_is (bytes "act") 15 line (take (a.end - a.at) (drop a.at a.s.now)) e q ∙ sym c.formed.ensures ∙ c.if-not-formed.true)),
     )
 
@@ -28,26 +28,26 @@ pub returns-then-n-ge-MOST_LINES : goal.returns-then-n-ge-MOST_LINES
 returns-then-n-ge-MOST_LINES c =
     let a = c.args in
     let g = c.requires in (
-      c.refuse-then-n-ge-MOST_LINES.ensures.2 _ _ g.number_value.1,
+      c.refuse-then-n-ge-MOST_LINES.ensures.2 _ _ g.collected.1,
       λ line rest e q.
-          from_refused (header_view a.h) a.s.now a.t c.refuse-then-n-ge-MOST_LINES.result line rest g.number_value.0 5 (λ z. omega arith) c.refuse-then-n-ge-MOST_LINES.ensures.0 c.refuse-then-n-ge-MOST_LINES.ensures.1
-          (line_5 (header_view a.h) _ _ line rest (form_is (bytes "act") 15 line (take (a.end - a.at) (drop a.at a.s.now)) e q ∙ sym c.formed.ensures ∙ c.if-not-formed.false) (rw (counted (header_view a.h) a.s.now a.t g.number_value.1) c.if-n-ge-MOST_LINES.true)),
+          from_refused (header_view a.h) a.s.now a.t c.refuse-then-n-ge-MOST_LINES.result line rest g.collected.0 5 (λ z. omega arith) c.refuse-then-n-ge-MOST_LINES.ensures.0 c.refuse-then-n-ge-MOST_LINES.ensures.1
+          (line_5 (header_view a.h) _ _ line rest (form_is (bytes "act") 15 line (take (a.end - a.at) (drop a.at a.s.now)) e q ∙ sym c.formed.ensures ∙ c.if-not-formed.false) (rw (counted (header_view a.h) a.s.now a.t g.collected.1) c.if-n-ge-MOST_LINES.true)),
     )
 
 pub returns-then-fault-ne0 : goal.returns-then-fault-ne0
 returns-then-fault-ne0 c =
     let a = c.args in
     let g = c.requires in (
-      c.refuse-then-fault-ne0.ensures.2 _ _ g.number_value.1,
+      c.refuse-then-fault-ne0.ensures.2 _ _ g.collected.1,
       λ line rest e q.
-          from_refused (header_view a.h) a.s.now a.t c.refuse-then-fault-ne0.result line rest g.number_value.0 c.read_activity-r.result.fault c.if-fault-ne0.true c.refuse-then-fault-ne0.ensures.0 c.refuse-then-fault-ne0.ensures.1
-          (line_fault (header_view a.h) _ _ line rest (form_is (bytes "act") 15 line (take (a.end - a.at) (drop a.at a.s.now)) e q ∙ sym c.formed.ensures ∙ c.if-not-formed.false) (rw (counted (header_view a.h) a.s.now a.t g.number_value.1) c.if-n-ge-MOST_LINES.false) _
+          from_refused (header_view a.h) a.s.now a.t c.refuse-then-fault-ne0.result line rest g.collected.0 c.read_activity-r.result.fault c.if-fault-ne0.true c.refuse-then-fault-ne0.ensures.0 c.refuse-then-fault-ne0.ensures.1
+          (line_fault (header_view a.h) _ _ line rest (form_is (bytes "act") 15 line (take (a.end - a.at) (drop a.at a.s.now)) e q ∙ sym c.formed.ensures ∙ c.if-not-formed.false) (rw (counted (header_view a.h) a.s.now a.t g.collected.1) c.if-n-ge-MOST_LINES.false) _
           (rw q (sym c.read_activity-r.ensures.activity_value ∙ unless_fault _ _ c.if-fault-ne0.true))),
     )
 
 pub among-requires : goal.among-requires
 among-requires c =
-    let g = c.requires.number_value.1 in
+    let g = c.requires.collected.1 in
     omega (arith, g.small, g.ids_long)
 
 pub returns-then-among : goal.returns-then-among
@@ -55,12 +55,12 @@ unfolding activity_view
 returns-then-among c =
     let a = c.args in
     let g = c.requires in (
-      c.refuse-then-among.ensures.2 _ _ g.number_value.1,
+      c.refuse-then-among.ensures.2 _ _ g.collected.1,
       λ line rest e q.
-          from_refused (header_view a.h) a.s.now a.t c.refuse-then-among.result line rest g.number_value.0 6 (λ z. omega arith) c.refuse-then-among.ensures.0 c.refuse-then-among.ensures.1
-          (line_6 (header_view a.h) _ _ line rest (form_is (bytes "act") 15 line (take (a.end - a.at) (drop a.at a.s.now)) e q ∙ sym c.formed.ensures ∙ c.if-not-formed.false) (rw (counted (header_view a.h) a.s.now a.t g.number_value.1) c.if-n-ge-MOST_LINES.false) (activity_view c.read_activity-r.result.activity)
+          from_refused (header_view a.h) a.s.now a.t c.refuse-then-among.result line rest g.collected.0 6 (λ z. omega arith) c.refuse-then-among.ensures.0 c.refuse-then-among.ensures.1
+          (line_6 (header_view a.h) _ _ line rest (form_is (bytes "act") 15 line (take (a.end - a.at) (drop a.at a.s.now)) e q ∙ sym c.formed.ensures ∙ c.if-not-formed.false) (rw (counted (header_view a.h) a.s.now a.t g.collected.1) c.if-n-ge-MOST_LINES.false) (activity_view c.read_activity-r.result.activity)
           (rw q (sym c.read_activity-r.ensures.activity_value ∙ unless_value _ _ c.if-fault-ne0.false))
-          (has_collected (header_view a.h) a.s.now a.t g.number_value.1 _ ∙ sym c.among.ensures ∙ c.if-among.true)),
+          (has_collected (header_view a.h) a.s.now a.t g.collected.1 _ ∙ sym c.among.ensures ∙ c.if-among.true)),
     )
 
 -- the numbers of a line without a fault are of 16 bits
@@ -79,7 +79,7 @@ overflow_cast-line-3 c = omega (arith, (narrow (goal.at.overflow_cast-line-3 c).
 
 pub push-requires : goal.push-requires
 push-requires c =
-    (c.if-n-ge-MOST_LINES.false, c.requires.number_value.1.long)
+    (c.if-n-ge-MOST_LINES.false, c.requires.collected.1.long)
 
 pub returns : goal.returns
 unfolding activity_view
@@ -89,11 +89,11 @@ returns c =
     let u = c.push.ensures in
     let v = c.read_activity-r.result.activity in
     let m : Line = record { at = a.at; id = v.id; priority = v.priority } in
-    let k = line_in_lem (header_view a.h) a.s.now a.end m (activity_view v) g.s_len_bound.3 (omega arith) (sym c.read_activity-r.ensures.activity_value ∙ unless_value _ _ c.if-fault-ne0.false) refl refl in (
-      u.3 _ _ g.number_value.1 k.0,
+    let k = line_in_lem (header_view a.h) a.s.now a.end m (activity_view v) g.at_next_lf.3 (omega arith) (sym c.read_activity-r.ensures.activity_value ∙ unless_value _ _ c.if-fault-ne0.false) refl refl in (
+      u.3 _ _ g.collected.1 k.0,
       λ line rest e q.
-          from_pushed (header_view a.h) a.s.now a.t c.push.result line rest g.number_value.0 (activity_view c.read_activity-r.result.activity) u.0 u.1 (pushed_view (header_view a.h) a.s.now a.t c.push.result m u.2 ∙ ap (λ w. activities_view (header_view a.h) a.s.now a.t ++ (w ∷ [])) k.1)
-          (line_on (header_view a.h) _ _ line rest (form_is (bytes "act") 15 line (take (a.end - a.at) (drop a.at a.s.now)) e q ∙ sym c.formed.ensures ∙ c.if-not-formed.false) (rw (counted (header_view a.h) a.s.now a.t g.number_value.1) c.if-n-ge-MOST_LINES.false) (activity_view c.read_activity-r.result.activity)
+          from_pushed (header_view a.h) a.s.now a.t c.push.result line rest g.collected.0 (activity_view c.read_activity-r.result.activity) u.0 u.1 (pushed_view (header_view a.h) a.s.now a.t c.push.result m u.2 ∙ ap (λ w. activities_view (header_view a.h) a.s.now a.t ++ (w ∷ [])) k.1)
+          (line_on (header_view a.h) _ _ line rest (form_is (bytes "act") 15 line (take (a.end - a.at) (drop a.at a.s.now)) e q ∙ sym c.formed.ensures ∙ c.if-not-formed.false) (rw (counted (header_view a.h) a.s.now a.t g.collected.1) c.if-n-ge-MOST_LINES.false) (activity_view c.read_activity-r.result.activity)
           (rw q (sym c.read_activity-r.ensures.activity_value ∙ unless_value _ _ c.if-fault-ne0.false))
-          (has_collected (header_view a.h) a.s.now a.t g.number_value.1 _ ∙ sym c.among.ensures ∙ c.if-among.false)),
+          (has_collected (header_view a.h) a.s.now a.t g.collected.1 _ ∙ sym c.among.ensures ∙ c.if-among.false)),
     )

@@ -50,8 +50,8 @@ pub add_line-t-requires : goal.add_line-t-requires
 add_line-t-requires c =
     let l = c.loop-at in
     record {
-      number_value = (l.invariant.1, l.invariant.2);
-      s_len_bound = (omega arith, omega arith, c.find-end.ensures.lower_bound.0, c.find-end.ensures.value);
+      collected = (l.invariant.1, l.invariant.2);
+      at_next_lf = (omega arith, omega arith, c.find-end.ensures.lower_bound.0, c.find-end.ensures.value);
     }
 
 pub returns-then-t-ne0 : goal.returns-then-t-ne0
