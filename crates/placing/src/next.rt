@@ -83,7 +83,7 @@ pub fn place_next(
     requires placeable { Placeable s.now plan × (k < plan.count) × Sized ticks.old amounts.old settings.old units.old }
     requires placed_to { PlacedTo s.now plan k n ticks.old amounts.old settings.old units.old × AnsweredTo s.now plan k answers.old }
     ensures sized { Sized ticks.new amounts.new settings.new units.new }
-    ensures placed_to_2 { PlacedTo s.now plan (k + 1) result ticks.new amounts.new settings.new units.new × AnsweredTo s.now plan (k + 1) answers.new }
+    ensures one_more { PlacedTo s.now plan (k + 1) result ticks.new amounts.new settings.new units.new × AnsweredTo s.now plan (k + 1) answers.new }
     ensures table_at { TableAt s.now plan k table.new }
 {
     let header = plan.header;
