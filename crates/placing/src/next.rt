@@ -57,8 +57,8 @@ fn put_if_placed(
     ticks: &mut [u16; TICK_CELLS],
 ) -> usize
     requires { (n < 64) × (candidate.id ≤ 65535) × ((s : ℕ) → outcome ≡ Placed s → s + candidate.duration ≤ 4096) × (length ticks.old ≡ 256) }
-    ensures upper_bound { (result ≤ n + 1) × (length ticks.new ≡ 256) }
-    ensures by_index { (amounts settings units : List ℕ) (placed : Schedule) → CandidateAt amounts settings units n (activity_view candidate) → Held (header_view header) ticks.old amounts settings units n placed → Held (header_view header) ticks.new amounts settings units result (added outcome (activity_view candidate) placed) }
+    ensures sized { (result ≤ n + 1) × (length ticks.new ≡ 256) }
+    ensures held { (amounts settings units : List ℕ) (placed : Schedule) → CandidateAt amounts settings units n (activity_view candidate) → Held (header_view header) ticks.old amounts settings units n placed → Held (header_view header) ticks.new amounts settings units result (added outcome (activity_view candidate) placed) }
 {
     let Outcome::Placed(start) = outcome else {
         return n;

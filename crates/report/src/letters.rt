@@ -10,7 +10,8 @@ fn put_letter(out: &mut [u8], at: usize, set: u32, c: u32) -> usize
     requires { (at < length out.old) × (c < condition_count) }
     ensures { Wrote out.old at (letters_from c (get_or condition_letters c 0 ∷ []) set) out.new result × (result ≤ at + 1) }
 {
-    if sets::has_condition(set, c) {
+    let has = sets::has_condition(set, c);
+    if has {
         out[at] = sets::letter(c);
         return at + 1;
     }

@@ -1,6 +1,5 @@
 -- `bit` meets its contract.
 use borrow.Author.Tests.{le-ltb}
-use Rattle.sets.proofs.Bits.{past}
 use Rattle.sets.specs.Sets.{bit_of}
 use mathlib.Core.Path.{refl}
 use native.Mathlib.Omega.{arith}
@@ -44,4 +43,4 @@ returns-in-8 c = rw c.in-8.is (refl, omega arith)
 
 pub returns-in_default : goal.returns-in_default
 unfolding bit_of
-returns-in_default c = rw (le-ltb _ 9 (past 9 c.args.c c.in_default.in_default-own.rest)) (refl, omega arith)
+returns-in_default c = rw (le-ltb c.args.c 9 (omega arith)) (refl, omega arith)

@@ -1,7 +1,7 @@
 -- `letter` meets its contract.
 use mathlib.Core.Path.{sym}
 use lib.ListN.{get_or-eq_default}
-use Rattle.sets.proofs.Bits.{past}
+use native.Mathlib.Omega.{arith}
 use Rattle.rules.specs.Conditions.{condition_letters}
 use Rattle.sets.proofs.letter.Goals as goal
 
@@ -43,4 +43,4 @@ returns-in-8 c = rw c.in-8.is
 
 pub returns-in_default : goal.returns-in_default
 unfolding condition_letters
-returns-in_default c = sym (get_or-eq_default condition_letters 0 {n = c.args.c} (past 9 c.args.c c.in_default.in_default-own.rest))
+returns-in_default c = sym (get_or-eq_default condition_letters 0 {n = c.args.c} (omega arith))

@@ -50,9 +50,9 @@ returns c =
     let B = beside A few c.requires.placed_to.0 w.candidate_at w.same_below.0 w.same_below.1 w.same_below.2 in
     let e = c.reply_to-outcome.ensures.value _ B in
     record {
-      sized = record { ticks_long = c.put_if_placed.ensures.upper_bound.1; amounts_long = w.amounts_len_2.0; settings_long = w.amounts_len_2.1; units_long = w.amounts_len_2.2 };
+      sized = record { ticks_long = c.put_if_placed.ensures.sized.1; amounts_long = w.amounts_len_2.0; settings_long = w.amounts_len_2.1; units_long = w.amounts_len_2.2 };
       one_more = (
-        placed_next A few c.requires.placed_to.0 e c.put_if_placed.ensures.upper_bound.0 (c.put_if_placed.ensures.by_index _ _ _ _ w.candidate_at B.held),
+        placed_next A few c.requires.placed_to.0 e c.put_if_placed.ensures.sized.0 (c.put_if_placed.ensures.held _ _ _ _ w.candidate_at B.held),
         answered_next _ (omega (arith, A.inside)) c.requires.placed_to.1 c.answer_of.ensures (outcome_is A few c.requires.placed_to.0 e),
       );
       table_at = table_is A few c.requires.placed_to.0 (c.reply_to-outcome.ensures.table _ B);

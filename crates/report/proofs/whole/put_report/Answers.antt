@@ -17,12 +17,12 @@ put_finished-requires c =
         say = rows_say S;
       },
       S.few,
-      omega (arith, few, c.put_lines-at.ensures.1, c.put_finished-arg-1.given),
+      omega (arith, few, c.put_lines-at.ensures.1),
     )
 
 pub returns : goal.returns
 returns c =
     let S = c.place_to-n.ensures.placed_to in
     let end = c.put_finished.ensures in
-    let few : c.put_finished.result ≤ length c.args.out.now = omega (arith, c.requires.said.few, end.upper_bound, c.put_lines-at.ensures.1, c.put_finished-arg-1.given) in
+    let few : c.put_finished.result ≤ length c.args.out.now = omega (arith, c.requires.said.few, end.upper_bound, c.put_lines-at.ensures.1) in
     (report_end _ _ _ _ _ c.put_lines-at.ensures.0 _ _ few c.requires (end.wrote _ (rows_say S)), omega (arith, c.requires.said.few, end.upper_bound, c.put_lines-at.ensures.1))
