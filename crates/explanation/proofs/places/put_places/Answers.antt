@@ -1,5 +1,4 @@
 -- `put_places` meets its contract: the places passed are written.
-use Prim.Native.Nat.{◌-◌}
 use mathlib.Core.Path.{refl, sym, ap}
 use native.Mathlib.Omega.{arith}
 use borrow.Author.Rules.{rules}
@@ -15,9 +14,9 @@ loop-k-init c = (omega arith, refl, record { ticks_long = search rules; amounts_
 
 pub place_next-n-requires : goal.place_next-n-requires
 place_next-n-requires c = record {
-      placeable = (c.requires, omega arith, c.loop-k.invariant.2);
-      placed_to = (c.loop-k.invariant.3, c.loop-k.invariant.4);
-    }
+  placeable = (c.requires, omega arith, c.loop-k.invariant.2);
+  placed_to = (c.loop-k.invariant.3, c.loop-k.invariant.4);
+}
 
 pub offset_bounds-answers-k : goal.offset_bounds-answers-k
 offset_bounds-answers-k c = omega (arith, c.requires.said.few)
