@@ -12,7 +12,7 @@ unfolding no_line no_text
 returns-then-reading-ne0 c =
     let read = c.read-reading in
     let p = printed _ _ _ _ _ (output_refused _ _ _ ((read_as read.result _ read.ensures.result_value read.ensures.plan_said).refused (λ e. omega arith))) c.put_no.ensures.0 in
-    record { output_called = p.0; upper_bound = p.1 }
+    record { output_called = p.0; lendable = p.1 }
 
 pub put_report-requires : goal.put_report-requires
 put_report-requires c = let read = c.read-reading in ((read_as read.result _ read.ensures.result_value read.ensures.plan_said).accepted (omega arith)).placeable
@@ -21,4 +21,4 @@ pub returns : goal.returns
 returns c =
     let read = c.read-reading in
     let p = printed _ _ _ _ _ (output_answered _ _ ((read_as read.result _ read.ensures.result_value read.ensures.plan_said).accepted (omega arith))) c.put_report.ensures.0 in
-    record { output_called = p.0; upper_bound = p.1 }
+    record { output_called = p.0; lendable = p.1 }
