@@ -31,12 +31,21 @@ def ours(text, name):
     return False
 
 
+def respelled(line, kept):
+    """The line with today's names; in a comment words with a dash are words, but between backticks."""
+    spelled = lambda text: token.sub(lambda found: found.group() if found.group() in kept else names.get(found.group(), found.group()), text)
+    if not re.match(r"\s*(--|//)", line):
+        return spelled(line)
+    parts = line.split("`")
+    return "`".join(spelled(part) if i % 2 or not re.search(r"[a-z]-[a-z]", part) else part for i, part in enumerate(parts))
+
+
 for path in sorted(glob.glob("crates/*/**/*.antt", recursive=True) + glob.glob("crates/*/src/**/*.rt", recursive=True)):
     text = open(path).read()
     kept = {name for name in SHARED if name in text and not ours(text, name)}
     if path.endswith(".rt"):
         # the code's own functions keep their names
         kept |= {name for name in names if re.fullmatch(r"[a-z_]+", name)}
-    new = token.sub(lambda found: found.group() if found.group() in kept else names.get(found.group(), found.group()), text)
+    new = "\n".join(respelled(line, kept) for line in text.split("\n"))
     if new != text:
         open(path, "w").write(new)

@@ -135,7 +135,7 @@ pub fn starts(
 pub fn output(bytes: &[u8], out: &mut [u8; REPORT]) -> usize
     ensures output_called { OutputCalled bytes.now out.old result out.new }
     // so that a caller can lend the front of `out`
-    ensures upper_bound { (result ≤ length out.new) × (result ≡ length (take result out.new)) }
+    ensures lendable { (result ≤ length out.new) × (result ≡ length (take result out.new)) }
 {
     let reading = plan::read(bytes);
     if reading.number != 0 {

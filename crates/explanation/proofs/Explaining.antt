@@ -1,11 +1,10 @@
 -- The whole text, by what the file is read as.
 -- Assumes nothing.
 use Prim.Native.Nat.{ℕ, ◌≤◌}
-use mathlib.Core.Path.{◌≡◌, refl, sym, ◌∙◌, ap}
+use mathlib.Core.Path.{◌≡◌, sym, ◌∙◌, ap}
 use mathlib.Core.Logic.{◌≢◌}
 use mathlib.Core.List.{List, []}
 use lib.ListN.{length}
-use Rattle.rules.specs.Reading.{reading}
 use Rattle.plan.specs.View.{plan_view}
 use Rattle.plan.specs.declared.Reading.{Reading as ReadingStruct}
 use Rattle.placing.proofs.Accepted.{ReadAs}

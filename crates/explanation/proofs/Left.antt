@@ -1,12 +1,9 @@
 -- Any one letter left out gives a start that meets the rest, and so a run of such starts.
 -- Assumes nothing.
-use Prim.Native.Nat.{ℕ, ◌-◌, ◌^◌, ◌<◌, ◌≤◌}
-use mathlib.Core.Path.{◌≡◌}
+use Prim.Native.Nat.{ℕ, ◌-◌, ◌^◌}
 use native.Mathlib.Omega.{arith}
-use lib.ListN.{length}
-use Rattle.rules.specs.Conditions.{condition_count, has, meets, meets_set}
+use Rattle.rules.specs.Conditions.{meets, meets_set}
 use Rattle.rules.specs.Outcomes.{starts, activity_at, placed, outcome}
-use Rattle.rules.specs.Runs.{runs_from}
 use Rattle.rules.specs.Calls.{runs}
 use Rattle.rules.proofs.Answers.{replied}
 use Rattle.rules.proofs.Runs.{runs_right}

@@ -1,13 +1,12 @@
 -- The text of the places, one place after the other.
 -- Assumes nothing.
 use Prim.Native.Nat.{ℕ, zero, suc, ◌+◌, ◌-◌, ◌^◌}
-use mathlib.Core.Path.{◌≡◌, refl, sym, ◌∙◌, ap}
-use mathlib.Core.Bool.{cond}
-use mathlib.Core.List.{List, [], ◌++◌}
+use mathlib.Core.Path.{◌≡◌, refl}
+use mathlib.Core.List.{List, ◌++◌}
 use native.Mathlib.Numerals.{add-one}
 use lib.ListN.{length}
 use Rattle.rules.specs.Plan.{Activity, Plan}
-use Rattle.rules.specs.Conditions.{condition_count, all_conditions, has}
+use Rattle.rules.specs.Conditions.{condition_count, all_conditions}
 use Rattle.rules.specs.Ordered.{ordered}
 use Rattle.rules.specs.Outcomes.{starts, activity_at, outcome}
 use Rattle.rules.specs.Calls.{runs}

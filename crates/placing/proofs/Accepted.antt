@@ -55,7 +55,7 @@ unfolding in_order
 held_go q s (accepted p) e f = record { plan = p; read = e; view = cc }
 held_go q s (refused r) e f = let z : ◌≡◌ {A = ℕ} 0 1 = cc in absurd (omega arith)
 
--- the places of a well_formed plan are well_formed
+-- the places of a well-formed plan are well-formed
 pub each_formed : (p : Plan) → WellFormed p → (k : ℕ) → k < length (order p.activities) → ActivityFormed p.header (nth_activity (order p.activities) k)
 each_formed p F k h =
     let O = order_right p.activities in

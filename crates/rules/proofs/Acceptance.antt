@@ -22,7 +22,7 @@ acceptance =
       exactly = λ s. (λ a. let f = accepted_formed s a.0 a.1 in (a.0, f.0, f.1, accepted_printed s a.0 a.1), λ w. (w.0, ap reading (sym w.3) ∙ read_printed w.0 w.1 w.2));
     }
 
--- a refused file is not the print of a well_formed plan whose handover charge can be reached
+-- a refused file is not the print of a well-formed plan whose handover charge can be reached
 pub refused_not_printed : (s : List ℕ) (r : Refusal) → reading s ≡ refused r → (p : Plan) → WellFormed p → Reachable p → plan_text p ≡ s → ⊥
 refused_not_printed s r e p w h q =
     let both : refused r ≡ accepted p = sym e ∙ ap reading (sym q) ∙ read_printed p w h in

@@ -16,7 +16,7 @@ use Rattle.rules.specs.Outcomes.{no_activity, activity_at}
 use Rattle.rules.specs.Reading.{Reading, accepted, no, has_id, misplaced, line_number, out_of_reach, judged, after_lines, reading}
 use Rattle.rules.specs.Print.{plan_text}
 use Rattle.rules.specs.WellFormed.{WellFormed, Reachable}
-use Rattle.rules.specs.Faults.{FileFault, no_earlier, out_of_reach_lem, Fault, too_long, in_file}
+use Rattle.rules.specs.Faults.{FileFault, no_earlier, not_reachable, Fault, too_long, in_file}
 use Rattle.rules.specs.Determined.{TextOf}
 use Rattle.rules.proofs.Signed.{lt_z_true, lt_z_false}
 use Rattle.rules.proofs.Says.{by_test}
@@ -52,7 +52,7 @@ module _ (s : List ℕ) (p : Plan) (R : PlanRead s p) where
   judged_tells (some a) t = refusing (misplaced_fault a t)
   judged_tells none t =
       by_test (Tells (TextOf s) (FileFault s)) (out_of_reach p.header)
-      (λ e. refusing (out_of_reach_lem p (well_formed t) R.text (lt_z_true e)))
+      (λ e. refusing (not_reachable p (well_formed t) R.text (lt_z_true e)))
       (λ e. told (well_formed t, lt_z_false e, R.text))
 
 file_tells : (s : List ℕ) {r : Reading} → Tells (PlanRead s) (FileFault s) r → Tells (TextOf s) (FileFault s) (after_lines r)

@@ -21,7 +21,7 @@ use Rattle.rules.specs.Reading.{no, formed, on_line, has_id, activity_lines, pla
 use Rattle.rules.specs.Print.{header_text, activity_text, plan_text}
 use Rattle.rules.specs.WellFormed.{HeaderFormed}
 use Rattle.rules.specs.Forms.{LineFormed, LineFault, no_lf, wrong_count, wrong_word, FieldsFault, plan_forms}
-use Rattle.rules.specs.Faults.{line_at, Begins, ActivityFault, act_line, line_65, act_field, same_id, FileFault, empty, plan_line, plan_field, activity, Named, no_earlier, out_of_reach_lem, Fault, too_long, in_file}
+use Rattle.rules.specs.Faults.{line_at, Begins, ActivityFault, act_line, line_65, act_field, same_id, FileFault, empty, plan_line, plan_field, activity, Named, no_earlier, not_reachable, Fault, too_long, in_file}
 use Rattle.rules.proofs.Tests.{is_false}
 use Rattle.rules.proofs.Signed.{lt_lt_z}
 use Rattle.rules.proofs.Join.{eq_same}
@@ -100,7 +100,7 @@ file_refused s (no_earlier p i k id E e hi hk q named names other) =
     let line : line_number (activity_at p k).id 2 p.activities ≡ 2 + i = line_number_lem _ 2 i p.activities hi (ap (λ (a : Activity). a.id) q) (λ j l r. E.ids j i l hi (r ∙ sym (ap (λ (a : Activity). a.id) q))) in
     let two : 2 + i ≡ suc (suc i) = omega arith in
     rw (← e, printed_back p.header p.activities E.header E.few (each_formed E) E.ids, first_misplaced p k id hk named names other, line, two)
-file_refused s (out_of_reach_lem p W e l) = rw (← e, left_to_judge p W, lt_lt_z _ _ l)
+file_refused s (not_reachable p W e l) = rw (← e, left_to_judge p W, lt_lt_z _ _ l)
 
 pub fault_refused : (s : List ℕ) (k n : ℕ) → Fault s k n → reading s ≡ no k n
 unfolding reading

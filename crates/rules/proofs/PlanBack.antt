@@ -1,4 +1,4 @@
--- The printed form of a well_formed plan whose handover charge can be reached is accepted as that plan.
+-- The printed form of a well-formed plan whose handover charge can be reached is accepted as that plan.
 -- Assumes nothing.
 use mathlib.Core.Path.{◌≡◌, refl, sym, ap, ◌∙◌, subst}
 use mathlib.Core.Bool.{false}
@@ -55,7 +55,7 @@ module _ (h : Header) (xs : List Activity) (g : HeaderFormed h) (few : length xs
   unfolding activity_lines
   printed_back = rw ((header_back h g).next (activities_text xs), printed_lines xs each, ← append-nil (map activity_text xs)) (lines_back [])
 
--- the lines of a well_formed plan draw no refusal, nor does its `after`: 9 is left
+-- the lines of a well-formed plan draw no refusal, nor does its `after`: 9 is left
 pub left_to_judge : (p : Plan) → WellFormed p → after_lines (plan_lines (lines (plan_text p))) ≡ judged p none
 unfolding plan_text after_lines activity_at
 left_to_judge p w =

@@ -1,4 +1,4 @@
--- A well_formed plan is written in at most 60,000 bytes.
+-- A well-formed plan is written in at most 60,000 bytes.
 -- Assumes nothing.
 use mathlib.Core.Path.{refl}
 use mathlib.Core.List.{List, [], ◌∷◌, map, Memᴰ}

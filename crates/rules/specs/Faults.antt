@@ -48,7 +48,7 @@ pub data FileFault (s : List ℕ) : ℕ → ℕ → Type 0 where
   -- 7: "`after` names no activity at an earlier place; its line", "least place first": place k has line i + 2
   no_earlier : (p : Plan) (i k id : ℕ) → Begins s p.header p.activities → plan_text p ≡ s → i < length p.activities → k < length p.activities → get_or p.activities i no_activity ≡ activity_at p k → Named p k → Memᴰ id (activity_at p k).after → ((j : ℕ) → j < k → (activity_at p j).id ≢ id) → FileFault s 7 (suc (suc i))
   -- 9: "c(T) with nothing placed is under the handover charge; line 0"
-  out_of_reach_lem : (p : Plan) → WellFormed p → plan_text p ≡ s → charge p.header [] p.header.horizon <ℤ pos p.header.handover → FileFault s 9 0
+  not_reachable : (p : Plan) → WellFormed p → plan_text p ≡ s → charge p.header [] p.header.horizon <ℤ pos p.header.handover → FileFault s 9 0
 
 -- refusal number k at line n of the file s: "1 comes first"
 pub data Fault (s : List ℕ) : ℕ → ℕ → Type 0 where

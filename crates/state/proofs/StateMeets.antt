@@ -113,7 +113,7 @@ module _ (h : Header) (ticks settings : List ℕ) (n : ℕ) (placed : Schedule) 
       ap (λ v. standing_by ticks settings v t n) (variable_is settings i b T G j k)
       ∙ stands_is h ticks settings (setting_at b.needs j).variable t (small settings i b T G j k) n placed rows
 
-  module _ (s : ℕ) (in_time_lem : s + a.duration ≤ h.horizon) where
+  module _ (s : ℕ) (in_time : s + a.duration ≤ h.horizon) where
     abbrev c : Entry
     c = at a s
 

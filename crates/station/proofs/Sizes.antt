@@ -18,7 +18,7 @@ use Rattle.rules.specs.MeetsV.{total_volume}
 use Rattle.rules.specs.Outcomes.{added, activity_at}
 use Rattle.rules.specs.Reading.{Reading, accepted, refused, reading}
 use Rattle.rules.specs.WellFormed.{HeaderFormed, ActivityFormed, WellFormed}
-use Rattle.rules.specs.Faults.{FileFault, empty, plan_line, plan_field, activity, no_earlier, out_of_reach_lem, Fault, too_long, in_file}
+use Rattle.rules.specs.Faults.{FileFault, empty, plan_line, plan_field, activity, no_earlier, not_reachable, Fault, too_long, in_file}
 use Rattle.rules.specs.Report.{outcome_line, end_line}
 use Rattle.rules.specs.Calls.{Filled, refusing, filling, report_of, report_call, runs, starts_of, starts_call}
 use Rattle.rules.specs.Demand.{Right, placed_by, lines_by, report_by, RightAnswers, Demand3}
@@ -44,7 +44,7 @@ file_line s k n (plan_line f) = omega arith
 file_line s k n (plan_field g f) = omega arith
 file_line s k n (activity h xs B l f) = omega (arith, B.few)
 file_line s k n (no_earlier p i j id B e l m q N M F) = omega (arith, B.few)
-file_line s k n (out_of_reach_lem p W e l) = omega arith
+file_line s k n (not_reachable p W e l) = omega arith
 
 fault_line : (s : List ℕ) (k n : ℕ) → Fault s k n → n ≤ 66
 fault_line s k n (too_long h) = omega arith

@@ -1,5 +1,5 @@
 -- As many runs as the answer says fit in the slice and in the columns, and put together they are what the call promises.
-use Rattle.std.proofs.Common.{arith, subst, sym, ◌≡◌, ◌≤◌, length}
+use Rattle.std.proofs.Common.{arith, subst, sym}
 use Rattle.station.proofs.StartsExported.{runs_fit, runs_exported}
 use Rattle.station.specs.Exported.{StartsExported}
 use Rattle.station.proofs.planner_starts.Goals as goal

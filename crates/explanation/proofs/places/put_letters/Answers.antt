@@ -1,5 +1,4 @@
 -- `put_letters` meets its contract: the letters passed are written.
-use Prim.Native.Nat.{◌-◌}
 use mathlib.Core.Path.{refl, ap}
 use native.Mathlib.Omega.{arith}
 use Rattle.explanation.specs.Places.{letter_texts}

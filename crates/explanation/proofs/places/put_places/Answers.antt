@@ -1,5 +1,4 @@
 -- `put_places` meets its contract: the places passed are written.
-use Prim.Native.Nat.{◌-◌}
 use mathlib.Core.Path.{refl, sym, ap}
 use native.Mathlib.Omega.{arith}
 use borrow.Author.Rules.{rules}
@@ -15,9 +14,9 @@ loop-k-init c = (omega arith, refl, record { ticks_long = search rules; amounts_
 
 pub place_next-n-requires : goal.place_next-n-requires
 place_next-n-requires c = record {
-      placeable = (c.requires, omega arith, c.loop-k.invariant.2);
-      placed_to = (c.loop-k.invariant.3, c.loop-k.invariant.4);
-    }
+  placeable = (c.requires, omega arith, c.loop-k.invariant.2);
+  placed_to = (c.loop-k.invariant.3, c.loop-k.invariant.4);
+}
 
 pub offset_bounds-answers-k : goal.offset_bounds-answers-k
 offset_bounds-answers-k c = omega (arith, c.requires.said.few)
@@ -26,10 +25,10 @@ pub bounds-answers-k : goal.bounds-answers-k
 bounds-answers-k c = omega (arith, c.requires.said.few)
 
 pub put_place-at-requires : goal.put_place-at-requires
-put_place-at-requires c = (c.requires, omega arith, c.place_next-n.ensures.table_at, c.place_next-n.ensures.placed_to_2.1.at _ (omega arith))
+put_place-at-requires c = (c.requires, omega arith, c.place_next-n.ensures.table_at, c.place_next-n.ensures.one_more.1.at _ (omega arith))
 
 pub loop-k-preserved : goal.loop-k-preserved
-loop-k-preserved c = (omega arith, omega arith, c.place_next-n.ensures.sized, c.place_next-n.ensures.placed_to_2.0, c.place_next-n.ensures.placed_to_2.1, wrote_as (sym (places_more _ _)) (wrote_then c.loop-k.invariant.5 c.put_place-at.ensures))
+loop-k-preserved c = (omega arith, omega arith, c.place_next-n.ensures.sized, c.place_next-n.ensures.one_more.0, c.place_next-n.ensures.one_more.1, wrote_as (sym (places_more _ _)) (wrote_then c.loop-k.invariant.5 c.put_place-at.ensures))
 
 pub returns : goal.returns
 returns c = wrote_as (ap (place_texts _) (omega arith)) c.loop-k.invariant.5

@@ -1,5 +1,4 @@
 -- `put_each_run` meets its contract: the runs passed are written.
-use Prim.Native.Nat.{◌-◌}
 use mathlib.Core.Path.{refl}
 use native.Mathlib.Omega.{arith}
 use Rattle.schedule.specs.Search.{meets_in}

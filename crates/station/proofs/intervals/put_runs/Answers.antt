@@ -1,5 +1,5 @@
 -- A run more is put, and none at the start.
-use Rattle.std.proofs.Common.{rules, arith, refl, ap, sym, ◌∙◌, ◌≡◌, ◌≤◌}
+use Rattle.std.proofs.Common.{arith, refl, ap, ◌∙◌, ◌≡◌}
 use Rattle.station.specs.Columns.{filled}
 use Rattle.station.proofs.PutRuns.{filled_one_more}
 use Rattle.station.proofs.intervals.put_runs.Goals as goal
