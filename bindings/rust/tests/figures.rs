@@ -109,7 +109,7 @@ fn refusals() {
         ("ID_REPEATED", Reason::IdRepeated, stated(FAULTS, "same_id", "")),
         ("AFTER_NOT_EARLIER", Reason::AfterNotEarlier, stated(FAULTS, "no_earlier", " (suc (suc i))")),
         ("LIST_WRONG", Reason::ListWrong, stated(FORMS, "no_rise", "")),
-        ("HANDOVER_UNMET", Reason::HandoverUnmet, stated(FAULTS, "out_of_reach_lem", " 0")),
+        ("HANDOVER_UNMET", Reason::HandoverUnmet, stated(FAULTS, "not_reachable", " 0")),
         ("SLICE_TOO_SHORT", Reason::SliceTooShort, stated(PROMISE, "pub short", " 0) × (after ≡ lent)")),
         ("NO_SUCH_PLACE", Reason::NoSuchPlace, stated(PROMISE, "pub no_place", " 0")),
         ("SET_TOO_LARGE", Reason::SetTooLarge, stated(PROMISE, "pub no_set", " 0")),
