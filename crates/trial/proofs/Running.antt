@@ -86,18 +86,18 @@ module _ (h : HeaderStruct) (draw : ℕ → ℕ) (from : ℕ) (old : List ℤ) w
       record { is = e; most = rw e l; small = b; ran = record { size = refl; began = le_refl _; past = λ t k. refl; next = λ t k l. absurd (omega arith); kept = λ t k l. absurd (omega arith) } }
 
   module _ (t : ℕ) (c : ℤ) (new : List ℤ) (a : AtTick h draw from t c old new) where
-    pub tick_floor : le_z (to_z w64 h.floor) (c) ≡ le_z (pos h.floor) (get_or new t (pos 0))
+    pub tick_floor : le_z (to_z w64 h.floor) c ≡ le_z (pos h.floor) (get_or new t (pos 0))
     tick_floor = λ i. le_z (to_z_pos w64 a.small i) (a.is i)
 
-    module _ (k : le_z (to_z w64 h.floor) (c) ≡ true) where
+    module _ (k : le_z (to_z w64 h.floor) c ≡ true) where
       -- the charge is between 0 and the capacity
       pub tick_range : (pos 0 ≤ℤ c) × (c ≤ℤ pos h.capacity)
       tick_range =
           let l = le_true (pos h.floor) (get_or new t (pos 0)) (sym tick_floor ∙ k) in
           (rw a.is (omega (signed, l)), a.most)
 
-      pub tick_more : (z : ℤ) → t + 1 < length old → mag z < 2 ^ 63 → z ≡ charge_next h.capacity h.rate (draw t) (c) → AtTick h draw from (t + 1) (to_z w64 (of_z w64 z)) old (set new (t + 1) (to_z w64 (of_z w64 z)))
+      pub tick_more : (z : ℤ) → t + 1 < length old → mag z < 2 ^ 63 → z ≡ charge_next h.capacity h.rate (draw t) c → AtTick h draw from (t + 1) (to_z w64 (of_z w64 z)) old (set new (t + 1) (to_z w64 (of_z w64 z)))
       tick_more z l f e =
           let m : t + 1 < length new = omega (arith, a.ran.size) in
-          let v : to_z w64 (of_z w64 z) ≡ charge_next h.capacity h.rate (draw t) (c) = to_z-of_z {w = w64} {z = z} (record { sfits = f }) ∙ e in
+          let v : to_z w64 (of_z w64 z) ≡ charge_next h.capacity h.rate (draw t) c = to_z-of_z {w = w64} {z = z} (record { sfits = f }) ∙ e in
           record { is = sym (get_or-set_same new (t + 1) _ (pos 0) m); most = rw v (next_most _ _ _ _); small = a.small; ran = ran_more h draw from old t new _ a.ran m (sym tick_floor ∙ k) (v ∙ ap (charge_next h.capacity h.rate (draw t)) a.is) }

@@ -1,4 +1,4 @@
--- `out_of_reach` meets its contract: c is the charge at tick t with nothing drawn, between 0 and 32 bits.
+-- The loop of `out_of_reach`: c is the charge at tick t with nothing drawn, between 0 and 32 bits.
 use Prim.Native.Nat.{◌-◌, ◌≤◌}
 use mathlib.Core.Path.{◌≡◌}
 use lib.IntN.{pos}

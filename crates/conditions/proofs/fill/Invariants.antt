@@ -1,4 +1,4 @@
--- `fill` meets its contract: the invariant is the table of the conditions passed.
+-- The loop of `fill`: the invariant is the table of the conditions passed.
 use Prim.Native.Nat.{ℕ, ◌-◌, ◌≤◌}
 use mathlib.Core.Path.{◌≡◌}
 use lib.ListN.{length, get_or}

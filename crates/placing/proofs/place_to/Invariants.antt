@@ -1,4 +1,4 @@
--- `place_to` meets its contract: the places passed are answered, and the rows are what they place.
+-- The loop of `place_to`: the places passed are answered, and the rows are what they place.
 use Prim.Native.Nat.{◌-◌, ◌≤◌}
 use Rattle.placing.specs.Places.{Sized, PlacedTo, AnsweredTo}
 use Rattle.placing.proofs.place_to.Given as goal

@@ -1,4 +1,4 @@
--- `line_begin` meets its contract: the lines passed are behind.
+-- The loop of `line_begin`: the lines passed are behind.
 use Prim.Native.Nat.{◌-◌, ◌≤◌}
 use mathlib.Core.Path.{◌≡◌}
 use lib.ListN.{length, drop}

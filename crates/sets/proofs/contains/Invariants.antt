@@ -1,4 +1,4 @@
--- `contains` meets its contract: the invariant is the test at the conditions passed.
+-- The loop of `contains`: the invariant is the test at the conditions passed.
 use Prim.Native.Nat.{◌-◌, ◌≤◌}
 use mathlib.Core.Path.{◌≡◌}
 use mathlib.Core.Bool.{true, ◌||◌, not}

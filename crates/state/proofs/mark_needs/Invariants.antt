@@ -1,4 +1,4 @@
--- `mark_needs` meets its contract: the starts below s are marked.
+-- The loop of `mark_needs`: the starts below s are marked.
 use Prim.Native.Nat.{◌-◌, ◌≤◌}
 use Rattle.sets.specs.Table.{Marked}
 use Rattle.state.specs.Spoils.{spoil_in}

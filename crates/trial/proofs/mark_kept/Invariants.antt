@@ -1,4 +1,4 @@
--- `mark_kept` meets its contract: the starts below s are marked.
+-- The loop of `mark_kept`: the starts below s are marked.
 use Prim.Native.Nat.{◌-◌, ◌≤◌}
 use mathlib.Core.Path.{◌≡◌}
 use lib.ListN.{length}

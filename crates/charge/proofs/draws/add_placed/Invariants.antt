@@ -1,4 +1,4 @@
--- `add_placed` meets its contract: the draws of the first i rows are summed.
+-- The loop of `add_placed`: the draws of the first i rows are summed.
 use Prim.Native.Nat.{ℕ, ◌-◌, ◌≤◌}
 use mathlib.Core.Path.{◌≡◌}
 use lib.ListN.{length, get_or}

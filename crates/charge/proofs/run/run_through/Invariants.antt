@@ -1,4 +1,4 @@
--- `run_through` meets its contract: c is the charge at tick t.
+-- The loop of `run_through`: c is the charge at tick t.
 use Prim.Native.Nat.{◌-◌, ◌≤◌}
 use mathlib.Core.Path.{◌≡◌}
 use Rattle.charge.specs.Charge.{at_tick, charge_by}

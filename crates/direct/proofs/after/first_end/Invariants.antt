@@ -1,4 +1,4 @@
--- `first_end` meets its contract: the invariant is the definition at the rows passed.
+-- The loop of `first_end`: the invariant is the definition at the rows passed.
 use Prim.Native.Nat.{◌-◌, ◌≤◌}
 use mathlib.Core.Path.{◌≡◌}
 use Rattle.direct.specs.Ended.{first_end}

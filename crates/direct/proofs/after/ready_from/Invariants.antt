@@ -1,4 +1,4 @@
--- `ready_from` meets its contract: the invariant is the definition at the ids passed.
+-- The loop of `ready_from`: the invariant is the definition at the ids passed.
 use Prim.Native.Nat.{◌-◌, ◌≤◌}
 use mathlib.Core.Path.{◌≡◌}
 use Rattle.direct.specs.Ended.{ready_from}

@@ -1,4 +1,4 @@
--- `mark_warmup` meets its contract: the invariant is the mark up to the start passed.
+-- The loop of `mark_warmup`: the invariant is the mark up to the start passed.
 use Prim.Native.Nat.{◌-◌, ◌≤◌}
 use lib.Dec.{leb}
 use Rattle.rules.specs.Warmup.{warmup_at}

@@ -1,4 +1,4 @@
--- `in_window` meets its contract: none of the windows passed has the start.
+-- The loop of `in_window`: none of the windows passed has the start.
 use Prim.Native.Nat.{ℕ, ◌-◌, ◌<◌, ◌≤◌}
 use mathlib.Core.Path.{◌≡◌}
 use mathlib.Core.Bool.{false}

@@ -1,4 +1,4 @@
--- `mark_windows` meets its contract: the invariant is the mark up to the start passed.
+-- The loop of `mark_windows`: the invariant is the mark up to the start passed.
 use Prim.Native.Nat.{◌-◌, ◌≤◌}
 use lib.ListN.{take}
 use Rattle.rules.specs.MeetsW.{allowed}

@@ -1,4 +1,4 @@
--- `put_letters` meets its contract: the letters passed are written.
+-- The loop of `put_letters`: the letters passed are written.
 use Prim.Native.Nat.{◌-◌, ◌≤◌}
 use mathlib.Core.Path.{◌≡◌}
 use lib.ListN.{length}

@@ -1,4 +1,4 @@
--- `put_places` meets its contract: the places passed are written.
+-- The loop of `put_places`: the places passed are written.
 use Prim.Native.Nat.{◌-◌, ◌≤◌}
 use mathlib.Core.Path.{◌≡◌}
 use lib.ListN.{length}

@@ -1,4 +1,4 @@
--- `put_each_run` meets its contract: the runs passed are written.
+-- The loop of `put_each_run`: the runs passed are written.
 use Prim.Native.Nat.{◌-◌}
 use mathlib.Core.Path.{◌≡◌}
 use lib.ListN.{length}

@@ -1,4 +1,4 @@
--- `clear_before` meets its contract: the invariant is the definition at the ticks passed.
+-- The loop of `clear_before`: the invariant is the definition at the ticks passed.
 use Prim.Native.Nat.{◌-◌, ◌≤◌}
 use mathlib.Core.Path.{◌≡◌}
 use Rattle.load.specs.Loads.{number_at}

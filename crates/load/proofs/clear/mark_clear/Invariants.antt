@@ -1,4 +1,4 @@
--- `mark_clear` meets its contract: the invariant has the tick from which the weight fits in all ticks passed.
+-- The loop of `mark_clear`: the invariant has the tick from which the weight fits in all ticks passed.
 use Prim.Native.Nat.{◌+◌, ◌-◌, ◌≤◌}
 use mathlib.Core.Path.{◌≡◌}
 use Rattle.load.specs.Loads.{number_at}

@@ -1,4 +1,4 @@
--- `fill_loads` meets its contract: the invariant is the load of the rows passed, at most a million for each.
+-- The loop of `fill_loads`: the invariant is the load of the rows passed, at most a million for each.
 use Prim.Native.Nat.{ℕ, ◌*◌, ◌-◌, ◌≤◌}
 use lib.ListN.{get_or}
 use Rattle.load.specs.Loads.{number_at, Loaded}

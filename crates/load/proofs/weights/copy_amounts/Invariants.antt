@@ -1,4 +1,4 @@
--- `copy_amounts` meets its contract: the rows passed are weighed.
+-- The loop of `copy_amounts`: the rows passed are weighed.
 use Prim.Native.Nat.{◌-◌, ◌≤◌}
 use Rattle.load.specs.Loads.{amount_at, Weighed}
 use Rattle.load.proofs.weights.copy_amounts.Given as goal

@@ -1,4 +1,4 @@
--- `share_unit` meets its contract: the rows have none of the units passed in common.
+-- The loop of `share_unit`: the rows have none of the units passed in common.
 use Prim.Native.Nat.{ℕ, ◌-◌, ◌<◌, ◌≤◌}
 use mathlib.Core.Path.{◌≡◌}
 use mathlib.Core.Bool.{false, ◌&&◌}

@@ -1,4 +1,4 @@
--- `weigh_sharing` meets its contract: the rows passed are weighed.
+-- The loop of `weigh_sharing`: the rows passed are weighed.
 use Prim.Native.Nat.{◌-◌, ◌≤◌}
 use Rattle.load.specs.Loads.{sharing, Weighed}
 use Rattle.load.proofs.weights.weigh_sharing.Given as goal

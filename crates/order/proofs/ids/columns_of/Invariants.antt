@@ -1,4 +1,4 @@
--- `ids::columns_of` meets its contract: the columns written are those of the lines passed.
+-- The loop of `ids::columns_of`: the columns written are those of the lines passed.
 use Prim.Native.Nat.{◌-◌, ◌≤◌}
 use mathlib.Core.Path.{◌≡◌}
 use mathlib.Core.List.{map}

@@ -1,4 +1,4 @@
--- `ids::line_of` meets its contract: what is left of the ids, from the line reached, gives the answer.
+-- The loop of `ids::line_of`: what is left of the ids, from the line reached, gives the answer.
 use Prim.Native.Nat.{◌+◌, ◌-◌, ◌≤◌}
 use mathlib.Core.Path.{◌≡◌}
 use lib.ListN.{take, drop}

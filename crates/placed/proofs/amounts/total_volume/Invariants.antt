@@ -1,4 +1,4 @@
--- `total_volume` meets its contract: the invariant is the sum over the rows passed.
+-- The loop of `total_volume`: the invariant is the sum over the rows passed.
 use Prim.Native.Nat.{◌-◌, ◌*◌, ◌≤◌}
 use mathlib.Core.Path.{◌≡◌}
 use Rattle.placed.specs.Tables.{volumes_in}

@@ -1,4 +1,4 @@
--- `code_of` meets its contract: no setting before j is one of the variable.
+-- The loop of `code_of`: no setting before j is one of the variable.
 use Prim.Native.Nat.{ℕ, ◌-◌, ◌<◌, ◌≤◌}
 use mathlib.Core.Path.{◌≡◌}
 use lib.ListN.{get_or}

@@ -1,4 +1,4 @@
--- `put_sets` meets its contract: the codes of the variables below v are written.
+-- The loop of `put_sets`: the codes of the variables below v are written.
 use Prim.Native.Nat.{◌-◌, ◌≤◌}
 use lib.ListN.{take}
 use Rattle.rules.specs.MeetsS.{given}

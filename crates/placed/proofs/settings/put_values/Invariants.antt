@@ -1,4 +1,4 @@
--- `put_values` meets its contract: those before j are written.
+-- The loop of `put_values`: those before j are written.
 use Prim.Native.Nat.{◌-◌, ◌≤◌}
 use Rattle.placed.specs.Written.{Written, code_at}
 use Rattle.placed.proofs.settings.put_values.Given as goal

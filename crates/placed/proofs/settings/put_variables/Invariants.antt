@@ -1,4 +1,4 @@
--- `put_variables` meets its contract: those before j are written.
+-- The loop of `put_variables`: those before j are written.
 use Prim.Native.Nat.{◌-◌, ◌≤◌}
 use Rattle.placed.specs.Written.{Written, first_at}
 use Rattle.placed.proofs.settings.put_variables.Given as goal

@@ -1,4 +1,4 @@
--- `raise_ticks` meets its contract: the ticks from `from` to before t are raised.
+-- The loop of `raise_ticks`: the ticks from `from` to before t are raised.
 use Prim.Native.Nat.{◌-◌, ◌≤◌}
 use Rattle.placed.specs.Raised.{Raised}
 use Rattle.placed.proofs.ticks.raise_ticks.Given as goal

@@ -1,4 +1,4 @@
--- `put_units` meets its contract: the flags of the units below u are written.
+-- The loop of `put_units`: the flags of the units below u are written.
 use Prim.Native.Nat.{◌-◌, ◌≤◌}
 use mathlib.Core.Bool.{cond}
 use lib.Dec.{eqb}

@@ -1,4 +1,4 @@
--- `after::all_among` meets its contract: what is left of the ids gives the answer.
+-- The loop of `after::all_among`: what is left of the ids gives the answer.
 use Prim.Native.Nat.{◌-◌, ◌≤◌}
 use mathlib.Core.Path.{◌≡◌}
 use lib.ListN.{take, drop}

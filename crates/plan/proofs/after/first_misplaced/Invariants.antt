@@ -1,4 +1,4 @@
--- `after::first_misplaced` meets its contract: the places that are left give the answer.
+-- The loop of `after::first_misplaced`: the places that are left give the answer.
 use Prim.Native.Nat.{ℕ, ◌-◌, ◌≤◌, ◌<◌}
 use mathlib.Core.Path.{◌≡◌}
 use mathlib.Core.List.{[], map}

@@ -1,4 +1,4 @@
--- `file::read_activities` meets its contract: what was read and the lines that are left give the answer.
+-- The loop of `file::read_activities`: what was read and the lines that are left give the answer.
 use Prim.Native.Nat.{◌-◌, ◌≤◌}
 use mathlib.Core.Path.{◌≡◌}
 use mathlib.Core.List.{[]}

@@ -1,4 +1,4 @@
--- `put_letters` meets its contract: the letters gone through are written.
+-- The loop of `put_letters`: the letters gone through are written.
 use mathlib.Core.Path.{◌≡◌}
 use Prim.Native.Nat.{◌+◌, ◌-◌, ◌≤◌}
 use lib.ListN.{length, take}

@@ -1,4 +1,4 @@
--- `put_lines` meets its contract: the lines of the places passed are written.
+-- The loop of `put_lines`: the lines of the places passed are written.
 use Prim.Native.Nat.{◌-◌, ◌*◌, ◌≤◌}
 use mathlib.Core.Path.{◌≡◌}
 use lib.ListN.{length}

@@ -1,4 +1,4 @@
--- `common_in` meets its contract: no start passed meets the set.
+-- The loop of `common_in`: no start passed meets the set.
 use mathlib.Core.Path.{◌≡◌}
 use mathlib.Core.Bool.{false}
 use Prim.Native.Nat.{◌-◌, ◌≤◌}

@@ -1,4 +1,4 @@
--- `letters_of` meets its contract: the set is what is kept after the letters passed.
+-- The loop of `letters_of`: the set is what is kept after the letters passed.
 use mathlib.Core.Path.{◌≡◌}
 use Prim.Native.Nat.{◌-◌, ◌≤◌}
 use Rattle.rules.specs.Conditions.{condition_count}

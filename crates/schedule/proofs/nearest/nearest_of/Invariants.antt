@@ -1,4 +1,4 @@
--- `nearest_of` meets its contract: the best so far is the nearest of the starts passed.
+-- The loop of `nearest_of`: the best so far is the nearest of the starts passed.
 use mathlib.Core.Path.{◌≡◌}
 use Prim.Native.Nat.{◌-◌, ◌≤◌}
 use Rattle.rules.specs.Answer.{nearest}

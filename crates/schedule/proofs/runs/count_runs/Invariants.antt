@@ -1,4 +1,4 @@
--- `count_runs` meets its contract: the runs of the starts passed are counted.
+-- The loop of `count_runs`: the runs of the starts passed are counted.
 use Rattle.schedule.specs.Search.{meets_in}
 use Rattle.schedule.proofs.RunSteps.{Counted}
 use Rattle.schedule.proofs.runs.count_runs.Given as goal

@@ -1,4 +1,4 @@
--- `next_start` meets its contract: the starts passed are otherwise.
+-- The loop of `next_start`: the starts passed are otherwise.
 use Prim.Native.Nat.{ℕ, ◌-◌, ◌<◌, ◌≤◌}
 use mathlib.Core.Path.{◌≡◌}
 use mathlib.Core.Bool.{not}

@@ -1,4 +1,4 @@
--- `write_column` meets its contract: the column of the runs of the starts passed is written.
+-- The loop of `write_column`: the column of the runs of the starts passed is written.
 use mathlib.Core.Path.{◌≡◌}
 use lib.ListN.{length}
 use Rattle.schedule.specs.Search.{meets_in}

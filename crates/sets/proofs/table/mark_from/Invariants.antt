@@ -1,4 +1,4 @@
--- `mark_from` meets its contract: the invariant is the mark up to the start passed.
+-- The loop of `mark_from`: the invariant is the mark up to the start passed.
 use Prim.Native.Nat.{◌-◌, ◌≤◌}
 use lib.Dec.{leb}
 use Rattle.sets.specs.Table.{Marked}

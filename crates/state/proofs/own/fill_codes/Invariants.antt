@@ -1,4 +1,4 @@
--- `fill_codes` meets its contract: the codes below number k are written.
+-- The loop of `fill_codes`: the codes below number k are written.
 use Prim.Native.Nat.{ℕ, ◌-◌, ◌*◌, ◌/◌, ◌%◌, ◌<◌, ◌≤◌}
 use mathlib.Core.Path.{◌≡◌}
 use lib.ListN.{length, get_or}

@@ -1,4 +1,4 @@
--- `own_needs_met` meets its contract: no need that was passed is unmet at a tick that was passed.
+-- The loops of `own_needs_met`: no need that was passed is unmet at a tick that was passed.
 use Prim.Native.Nat.{ℕ, ◌-◌, ◌<◌, ◌≤◌}
 use mathlib.Core.Path.{◌≡◌}
 use mathlib.Core.Bool.{true, false}

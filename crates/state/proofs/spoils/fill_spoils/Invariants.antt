@@ -1,4 +1,4 @@
--- `fill_spoils` meets its contract: the first ticks of the needs below number k are written.
+-- The loop of `fill_spoils`: the first ticks of the needs below number k are written.
 use Prim.Native.Nat.{ℕ, ◌-◌, ◌*◌, ◌/◌, ◌%◌, ◌<◌, ◌≤◌}
 use mathlib.Core.Path.{◌≡◌}
 use lib.ListN.{length, get_or}

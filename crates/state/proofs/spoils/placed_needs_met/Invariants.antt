@@ -1,4 +1,4 @@
--- `placed_needs_met` meets its contract: no need that was passed is spoilt.
+-- The loops of `placed_needs_met`: no need that was passed is spoilt.
 use Prim.Native.Nat.{ℕ, ◌-◌, ◌<◌, ◌≤◌}
 use mathlib.Core.Path.{◌≡◌}
 use mathlib.Core.Bool.{true, false}

@@ -1,4 +1,4 @@
--- `rows_spoilt` meets its contract: no need from number k on is ever spoilt.
+-- The loop of `rows_spoilt`: no need from number k on is ever spoilt.
 use Prim.Native.Nat.{ℕ, ◌*◌, ◌≤◌, ◌<◌}
 use lib.ListN.{get_or}
 use Rattle.placed.specs.Bounds.{never}

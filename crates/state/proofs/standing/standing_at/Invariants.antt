@@ -1,4 +1,4 @@
--- `standing_at` meets its contract: the sets of the first i rows are weighed.
+-- The loop of `standing_at`: the sets of the first i rows are weighed.
 use Prim.Native.Nat.{◌-◌, ◌≤◌}
 use mathlib.Core.Path.{◌≡◌}
 use Rattle.state.specs.Standing.{standing_by}

@@ -1,4 +1,4 @@
--- `field::field_at` meets its contract: at the loop's head, the fields from number j on are those of the rest of the line.
+-- The loop of `field::field_at`: at the loop's head, the fields from number j on are those of the rest of the line.
 use mathlib.Core.Path.{◌≡◌}
 use Prim.Native.Nat.{◌-◌, ◌≤◌}
 use lib.ListN.{length, drop}

@@ -1,4 +1,4 @@
--- `field::field_count` meets its contract.
+-- The loop of `field::field_count`.
 use mathlib.Core.Path.{◌≡◌}
 use Prim.Native.Nat.{◌+◌, ◌-◌, ◌≤◌}
 use lib.ListN.{length, drop}

@@ -1,4 +1,4 @@
--- `field::find` meets its contract.
+-- The loop of `field::find`.
 use mathlib.Core.Path.{◌≡◌}
 use Prim.Native.Nat.{◌+◌, ◌-◌, ◌≤◌}
 use lib.ListN.{length, drop}

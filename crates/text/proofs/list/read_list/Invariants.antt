@@ -1,4 +1,4 @@
--- `list::read_list` meets its contract: what is left of the list, after what was counted in, gives the whole.
+-- The loop of `list::read_list`: what is left of the list, after what was counted in, gives the whole.
 use mathlib.Core.Path.{◌≡◌}
 use Prim.Native.Nat.{◌-◌, ◌≤◌}
 use lib.ListN.{length, drop}

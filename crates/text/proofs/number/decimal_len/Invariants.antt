@@ -1,4 +1,4 @@
--- `number::decimal_len` meets its contract.
+-- The loop of `number::decimal_len`.
 use mathlib.Core.Path.{◌≡◌}
 use Prim.Native.Nat.{◌+◌, ◌≤◌}
 use lib.ListN.{length}

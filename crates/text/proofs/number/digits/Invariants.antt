@@ -1,4 +1,4 @@
--- `number::digits` meets its contract.
+-- The loop of `number::digits`.
 use mathlib.Core.Path.{◌≡◌}
 use Prim.Native.Nat.{◌-◌, ◌^◌, ◌≤◌, ◌<◌}
 use lib.ListN.{length, drop}

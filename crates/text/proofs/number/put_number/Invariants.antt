@@ -1,4 +1,4 @@
--- `number::put_number` meets its contract: the digits of y, put at `at`, give what is asked.
+-- The loop of `number::put_number`: the digits of y, put at `at`, give what is asked.
 use mathlib.Core.Path.{◌≡◌}
 use Prim.Native.Nat.{◌+◌, ◌≤◌}
 use lib.ListN.{length}

@@ -1,4 +1,4 @@
--- `word::is` meets its contract.
+-- The loop of `word::is`.
 use mathlib.Core.Path.{◌≡◌}
 use Prim.Native.Nat.{◌-◌, ◌≤◌}
 use lib.ListN.{length, drop}

@@ -1,4 +1,4 @@
--- `word::put_bytes` meets its contract: what is left of src, put where o stands, gives what is asked.
+-- The loop of `word::put_bytes`: what is left of src, put where o stands, gives what is asked.
 use mathlib.Core.Path.{◌≡◌}
 use Prim.Native.Nat.{◌+◌, ◌-◌, ◌≤◌}
 use lib.ListN.{length, drop}

@@ -1,4 +1,4 @@
--- `run_back` meets its contract: the charges are run on to t, and c is the one there.
+-- The loop of `run_back`: the charges are run on to t, and c is the one there.
 use Prim.Native.Nat.{◌-◌, ◌≤◌}
 use Rattle.charge.specs.Charge.{at_tick}
 use Rattle.trial.proofs.Running.{AtTick}

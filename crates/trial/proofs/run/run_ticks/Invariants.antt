@@ -1,4 +1,4 @@
--- `run_ticks` meets its contract: the charges are run on to t, and c is the one there.
+-- The loop of `run_ticks`: the charges are run on to t, and c is the one there.
 use Prim.Native.Nat.{◌-◌, ◌≤◌}
 use Rattle.charge.specs.Charge.{at_tick}
 use Rattle.trial.specs.Trial.{draw_more}

@@ -1,4 +1,4 @@
--- `lowest_charge` meets its contract: the lowest of ticks 0 to t.
+-- The loop of `lowest_charge`: the lowest of ticks 0 to t.
 use Prim.Native.Nat.{◌-◌, ◌≤◌}
 use mathlib.Core.Path.{◌≡◌}
 use Rattle.trial.specs.Trial.{lowest_of}

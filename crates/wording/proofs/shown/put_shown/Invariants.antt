@@ -1,4 +1,4 @@
--- `put_shown` meets its contract: the bytes passed are shown.
+-- The loop of `put_shown`: the bytes passed are shown.
 use Prim.Native.Nat.{◌-◌, ◌≤◌}
 use mathlib.Core.Path.{◌≡◌}
 use lib.ListN.{length, take}

@@ -1,4 +1,4 @@
--- `put_word` meets its contract: the bytes passed are written.
+-- The loop of `put_word`: the bytes passed are written.
 use Prim.Native.Nat.{◌-◌, ◌≤◌}
 use mathlib.Core.Path.{◌≡◌}
 use lib.ListN.{length, take}
