@@ -1,6 +1,7 @@
 -- The specification's value of each struct of the code.
-use Rattle.std.specs.Prelude.{ℕ, ◌≤◌, List, [], ◌∷◌, take}
+use Rattle.std.specs.Prelude.{ℕ, List, map}
 use Rattle.rules.specs.Plan.{Header, Window, Setting, Activity}
+use Rattle.items.specs.declared.Item.{Item}
 use Rattle.activity.specs.declared.Header.{Header as HeaderStruct}
 use Rattle.activity.specs.declared.Activity.{Activity as ActivityStruct}
 
@@ -20,16 +21,15 @@ header_view h =
       heater = h.heater;
     }
 
--- entries of two arrays, one from each
-abbrev pub windows_view : List ℕ → List ℕ → List Window
-windows_view [] ys = []
-windows_view (x ∷ xs) [] = []
-windows_view (x ∷ xs) (y ∷ ys) = record { from = x; to = y } ∷ windows_view xs ys
+-- an item as a window, as a setting and as a number
+abbrev pub window_of : Item → Window
+window_of i = record { from = i.first; to = i.second }
 
-abbrev pub settings_view : List ℕ → List ℕ → List Setting
-settings_view [] ys = []
-settings_view (x ∷ xs) [] = []
-settings_view (x ∷ xs) (y ∷ ys) = record { variable = x; value = y } ∷ settings_view xs ys
+abbrev pub setting_of : Item → Setting
+setting_of i = record { variable = i.first; value = i.second }
+
+abbrev pub number_of : Item → ℕ
+number_of i = i.first
 
 unfoldable pub activity_view : ActivityStruct → Activity
 activity_view a =
@@ -38,22 +38,14 @@ activity_view a =
       priority = a.priority;
       duration = a.duration;
       preferred = a.preferred;
-      windows = take a.window_count (windows_view a.window_from a.window_to);
-      after = take a.after_count a.after;
-      units = take a.unit_count a.units;
-      needs = take a.need_count (settings_view a.need_variable a.need_value);
-      sets = take a.set_count (settings_view a.set_variable a.set_value);
+      windows = map window_of a.windows;
+      after = map number_of a.after;
+      units = map number_of a.units;
+      needs = map setting_of a.needs;
+      sets = map setting_of a.sets;
       engines = a.engines;
       peak = a.peak;
       draw = a.draw;
       volume = a.volume;
       warm = a.warm;
     }
-
--- the counts are within the arrays
-pub record Sized (a : ActivityStruct) : Type 0 where
-  pub windows : a.window_count ≤ 4
-  pub after : a.after_count ≤ 8
-  pub units : a.unit_count ≤ 32
-  pub needs : a.need_count ≤ 4
-  pub sets : a.set_count ≤ 4

@@ -1,5 +1,6 @@
 #![tactic(auto)]
 // A plan's first line and an activity line, as the code holds them (document 01, The plan file).
+use items::Items;
 
 // The first line's numbers.
 #[derive(Clone, Copy)]
@@ -17,26 +18,19 @@ pub struct Header {
     pub heater: u32,
 }
 
-// An activity line. Of each list the first so many entries count; a window, a need and a set are one entry in each of two arrays.
-#[derive(Clone, Copy)]
+// An activity line. A window has its first and last start, a need or a set its variable and value, an id or a unit its
+// number as both.
+#[derive(Drop)]
 pub struct Activity {
     pub id: u32,
     pub priority: u32,
     pub duration: u32,
     pub preferred: u32,
-    pub window_count: usize,
-    pub window_from: [u32; 4],
-    pub window_to: [u32; 4],
-    pub after_count: usize,
-    pub after: [u32; 8],
-    pub unit_count: usize,
-    pub units: [u32; 32],
-    pub need_count: usize,
-    pub need_variable: [u32; 4],
-    pub need_value: [u32; 4],
-    pub set_count: usize,
-    pub set_variable: [u32; 4],
-    pub set_value: [u32; 4],
+    pub windows: Items<4>,
+    pub after: Items<8>,
+    pub units: Items<32>,
+    pub needs: Items<4>,
+    pub sets: Items<4>,
     pub engines: u32,
     pub peak: u32,
     pub draw: u32,

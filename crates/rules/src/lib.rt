@@ -2,6 +2,7 @@
 // The numbers and types that the planner's crates share, the warm-up table, and a search.
 ghost use Rattle.std.specs.Prelude.{◌≡◌, ◌≤◌, eqb, length, take};
 ghost use Rattle.rules.specs.Tests.{any_of};
+ghost use Rattle.rules.specs.Refusals.{number_of};
 ghost use Rattle.rules.specs.Warmup.{warmup_at};
 
 // The most activities that a plan has, and so the most places.
@@ -22,25 +23,50 @@ pub enum Outcome {
     Refused(u32),
 }
 
-// A refusal's number and line (document 01, When the planner says no).
+// Why a file or a call is refused (document 01, When the planner says no).
+#[derive(Clone, Copy)]
+pub enum Fault {
+    TooLong,
+    NotFormed,
+    Malformed,
+    OutOfRange,
+    TooMany,
+    Repeated,
+    Misplaced,
+    NotRising,
+    OutOfReach,
+    NoRoom,
+    NoPlace,
+    NoSet,
+}
+
+// The number of a fault.
+impl From<Fault> for u32 {
+    ghost from_gives = { λ fault n. n ≡ number_of fault };
+
+    fn from(fault: Fault) -> u32 {
+        match fault {
+            Fault::TooLong => 1,
+            Fault::NotFormed => 2,
+            Fault::Malformed => 3,
+            Fault::OutOfRange => 4,
+            Fault::TooMany => 5,
+            Fault::Repeated => 6,
+            Fault::Misplaced => 7,
+            Fault::NotRising => 8,
+            Fault::OutOfReach => 9,
+            Fault::NoRoom => 10,
+            Fault::NoPlace => 11,
+            Fault::NoSet => 12,
+        }
+    }
+}
+
+// A refusal: its fault, and the line that has it, 0 where it is no line's.
 #[derive(Clone, Copy)]
 pub struct Refusal {
-    pub number: u32,
+    pub fault: Fault,
     pub line: u32,
-}
-
-// What the outcome call answers.
-#[derive(Clone, Copy)]
-pub enum OutcomeAnswer {
-    Answer(Outcome),
-    No(Refusal),
-}
-
-// What the report and starts calls answer: a count, or a refusal.
-#[derive(Clone, Copy)]
-pub enum CountAnswer {
-    Count(usize),
-    No(Refusal),
 }
 
 // A run of starts: its first and its last. It is laid out as in C, for `station`.
@@ -73,7 +99,7 @@ pub fn warmup_at(minute: u32, start: u32, warm: u32) -> u32
     if warm == 0 {
         return 0;
     }
-    let q = (minute as u64 + start as u64) % 1440 / 5;
+    let q = (u64::from(minute) + u64::from(start)) % 1440 / 5;
     WARMUP[q as usize]
 }
 
