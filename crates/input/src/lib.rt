@@ -1,45 +1,35 @@
 #![tactic(auto)]
 // The input, read whole, and how a program ends that has trouble.
-ghost use Rattle.std.specs.Prelude.{◌≡◌, ◌≤◌, ◌<◌, false, length, take};
+ghost use Rattle.std.specs.Prelude.{◌≡◌, ◌≤◌, ◌<◌, IfOk, length, take};
 ghost use Rattle.std.specs.Io.KnownBytes.{Consumes, IsAtEnd};
+ghost use Rattle.input.specs.Count.{count_of};
 
 use std::io::{Eprint, Read};
 use std::process::ExitCode;
 
-// How many bytes of the input were read, and whether a read failed.
+// A read failed, after `count` bytes had been read.
 #[derive(Clone, Copy)]
-pub struct Input {
+pub struct ReadFailed {
     pub count: usize,
-    pub failed: bool,
 }
 
-// Reads the input to its end, or until the buffer is full or a read fails, into the front of the buffer.
-pub fn read_input<R: Read>(reader: &mut R, buf: &mut [u8]) -> Input
-    ensures within { result.count ≤ length buf.new }
-    ensures front { result.count ≡ length (take result.count buf.new) }
-    ensures taken { Consumes (R.remaining reader.old) (R.remaining reader.new) (take result.count buf.new) }
-    ensures whole { result.failed ≡ false → result.count < length buf.new → IsAtEnd (R.remaining reader.new) }
+// Reads the input to its end, or until the buffer is full or a read fails, into the front of the buffer, and answers how
+// many bytes it read.
+pub fn read_input<R: Read>(reader: &mut R, buf: &mut [u8]) -> Result<usize, ReadFailed>
+    ensures within { count_of result ≤ length buf.new }
+    ensures front { count_of result ≡ length (take (count_of result) buf.new) }
+    ensures taken { Consumes (R.remaining reader.old) (R.remaining reader.new) (take (count_of result) buf.new) }
+    ensures whole { IfOk result (λ count. count < length buf.new → IsAtEnd (R.remaining reader.new)) }
 {
-    let mut at = 0;
-    while at < buf.len() {
-        let Ok(more) = reader.read(&mut buf[at..]) else {
-            return Input {
-                count: at,
-                failed: true,
-            };
-        };
-        if more == 0 {
-            return Input {
-                count: at,
-                failed: false,
-            };
+    let mut count = 0;
+    while count < buf.len() {
+        match reader.read(&mut buf[count..]) {
+            Ok(0) => break,
+            Ok(more) => count += more,
+            Err(_) => return Err(ReadFailed { count }),
         }
-        at += more;
     }
-    Input {
-        count: at,
-        failed: false,
-    }
+    Ok(count)
 }
 
 // Says on standard error what the trouble is, and answers the status to end with.

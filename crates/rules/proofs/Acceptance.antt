@@ -9,7 +9,7 @@ use Rattle.rules.specs.Reading.{accepted, refused, reading}
 use Rattle.rules.specs.Print.{plan_text}
 use Rattle.rules.specs.WellFormed.{WellFormed, Reachable}
 use Rattle.rules.specs.Acceptance.{Acceptance}
-use Rattle.rules.specs.declared.Refusal.{Refusal}
+use Rattle.rules.specs.Refusals.{Refusal}
 use Rattle.rules.proofs.PlanBack.{read_printed}
 use Rattle.rules.proofs.Accepted.{accepted_formed, accepted_printed}
 

@@ -9,7 +9,7 @@ use Rattle.rules.specs.Plan.{Header, Activity, Plan, Schedule}
 use Rattle.rules.specs.Reading.{Reading, accepted, refused, reading}
 use Rattle.rules.specs.Faults.{Fault}
 use Rattle.rules.specs.Determined.{OrderDetermined, RunsDetermined, AnswerDetermined, TextOf, FileDetermined, Determined}
-use Rattle.rules.specs.declared.Refusal.{Refusal}
+use Rattle.rules.specs.Refusals.{Refusal}
 use Rattle.rules.proofs.Order.{order_right}
 use Rattle.rules.proofs.SameOrder.{order_same}
 use Rattle.rules.proofs.Runs.{runs_right}

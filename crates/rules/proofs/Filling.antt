@@ -13,7 +13,7 @@ use Rattle.rules.specs.Conditions.{all_conditions}
 use Rattle.rules.specs.Reading.{Reading, accepted, refused, reading}
 use Rattle.rules.specs.Report.{report}
 use Rattle.rules.specs.Calls.{Filled, full, refusing, filling, report_of, report_call, runs, starts_of, starts_call}
-use Rattle.rules.specs.declared.Refusal.{Refusal}
+use Rattle.rules.specs.Refusals.{Refusal}
 use Rattle.rules.proofs.Refusing.{reading_number}
 
 -- a slice of `room` elements is rightly filled

@@ -20,7 +20,7 @@ use Rattle.rules.specs.Print.{header_text, activity_text, activities_text, plan_
 use Rattle.rules.specs.WellFormed.{ActivityFormed}
 use Rattle.rules.specs.Forms.{last_byte, LineFormed, LineFault, no_lf, wrong_count, wrong_word}
 use Rattle.rules.specs.Faults.{line_at, Begins, ActivityFault, act_line, line_65, act_field, same_id, FileFault, empty, plan_line, plan_field, activity}
-use Rattle.rules.specs.declared.Refusal.{Refusal}
+use Rattle.rules.specs.Refusals.{Refusal}
 use Rattle.rules.proofs.Tests.{and_left, and_right, both_ways}
 use Rattle.rules.proofs.Says.{by_test, by_check, one_fails, Says, said, faulted}
 use Rattle.rules.proofs.Join.{same_eq, eq_same, joined, joined_lines}

@@ -18,7 +18,7 @@ use Rattle.rules.specs.Fields.{Read, value, fault, ◌>>=◌, within, number_fie
 use Rattle.rules.specs.HeaderLine.{header_of}
 use Rattle.rules.specs.ActivityLine.{activity_of}
 use Rattle.rules.specs.Reading.{Reading, accepted, refused, no, formed, on_line, has_id, activity_lines, plan_lines, misplaced, out_of_reach, judged, after_lines, reading}
-use Rattle.rules.specs.declared.Refusal.{Refusal}
+use Rattle.rules.specs.Refusals.{Refusal}
 
 -- ---- a field's faults are 3 to 8
 record FieldFault {A : Type 0} (x : Read A) : Type 0 where

@@ -6,24 +6,38 @@ use mathlib.Core.List.{List, [], ◌∷◌, ◌++◌}
 use native.Mathlib.Omega.{arith}
 use lib.ListN.{length, get_or, drop, length-append, length-drop, get_or-append}
 use lib.Seq.{get_or-append-add, get_or-drop}
-use Rattle.rules.specs.Calls.{refusal, full, outcome_values, outcome_terms, count_terms, slice_after}
+use Rattle.rules.specs.Calls.{Terms, refusal, full, outcome_values, outcome_terms, count_terms, slice_after}
 use Rattle.rules.specs.declared.Outcome.{Outcome}
 use Rattle.rules.specs.declared.Outcome.TheVariants.{Placed, Refused}
-use Rattle.rules.specs.declared.Refusal.{Refusal}
-use Rattle.rules.specs.declared.OutcomeAnswer.{OutcomeAnswer}
-use Rattle.rules.specs.declared.OutcomeAnswer.TheVariants.{Answer, No}
-use Rattle.rules.specs.declared.CountAnswer.{CountAnswer}
-use Rattle.rules.specs.declared.CountAnswer.TheVariants.{Count, No as CountNo}
+use Rattle.rules.specs.declared.Fault.{Fault}
+use Rattle.rules.specs.declared.Fault.TheVariants.{TooLong, NotFormed, Malformed, OutOfRange, TooMany, Repeated, Misplaced, NotRising, OutOfReach, NoRoom, NoPlace, NoSet}
+use Rattle.rules.specs.declared.Refusal.{Refusal as RefusalStruct}
+use Rattle.rules.specs.Refusals.{number_of}
+use Rattle.std.specs.Prelude.{Result, Ok, Err, cond, eqb}
 
 -- ---- answers with the same terms are the same
 -- a full result has values, and a refusal none
 told_apart : {X : Type 0} (v : ℕ) (vs : List ℕ) (k n : ℕ) → full (v ∷ vs) ≡ refusal k n → X
 told_apart v vs k n e = let f : v ∷ vs ≡ [] = ap (λ t. t.values) e in let z : ◌≡◌ {A = ℕ} 0 1 = cc in absurd (omega arith)
 
-same_refusal : (q r : Refusal) → refusal q.number q.line ≡ refusal r.number r.line → q ≡ r
-same_refusal q r e = λ i. record { number = (e i).number; line = (e i).line }
+-- the fault of a number
+fault_of : ℕ → Fault
+fault_of n =
+    cond (eqb n 1) TooLong (cond (eqb n 2) NotFormed (cond (eqb n 3) Malformed (cond (eqb n 4) OutOfRange (cond (eqb n 5) TooMany (cond (eqb n 6) Repeated (cond (eqb n 7) Misplaced (cond (eqb n 8) NotRising (cond (eqb n 9) OutOfReach (cond (eqb n 10) NoRoom (cond (eqb n 11) NoPlace NoSet))))))))))
 
-answer_no : {X : Type 0} (o : Outcome) (r : Refusal) → full (outcome_values o) ≡ refusal r.number r.line → X
+fault_back : (f : Fault) → fault_of (number_of f) ≡ f
+unfolding fault_of
+fault_back = elim [ TooLong ↦ refl | NotFormed ↦ refl | Malformed ↦ refl | OutOfRange ↦ refl | TooMany ↦ refl | Repeated ↦ refl | Misplaced ↦ refl | NotRising ↦ refl | OutOfReach ↦ refl | NoRoom ↦ refl | NoPlace ↦ refl | NoSet ↦ refl ]
+
+-- faults of one number are the same
+pub same_fault : (f g : Fault) → number_of f ≡ number_of g → f ≡ g
+same_fault f g e = sym (fault_back f) ∙ ap fault_of e ∙ fault_back g
+
+-- refusals of one number and line are the same
+pub same_refusal : (q r : RefusalStruct) → refusal (number_of q.fault) q.line ≡ refusal (number_of r.fault) r.line → q ≡ r
+same_refusal q r e = let f = same_fault q.fault r.fault (ap (λ (t : Terms). t.number) e) in λ i. record { fault = f i; line = (e i).line }
+
+answer_no : {X : Type 0} (o : Outcome) (r : RefusalStruct) → full (outcome_values o) ≡ refusal (number_of r.fault) r.line → X
 unfolding outcome_values
 answer_no (Placed s) r e = told_apart 1 (s ∷ []) _ _ e
 answer_no (Refused m) r e = told_apart 0 (m ∷ []) _ _ e
@@ -35,19 +49,19 @@ same_outcome (Placed s) (Refused m) e = cc
 same_outcome (Refused m) (Placed s) e = cc
 same_outcome (Refused m) (Refused l) e = cc
 
-pub outcome_terms_differ : (a b : OutcomeAnswer) → outcome_terms a ≡ outcome_terms b → a ≡ b
+pub outcome_terms_differ : (a b : Result Outcome RefusalStruct) → outcome_terms a ≡ outcome_terms b → a ≡ b
 unfolding outcome_terms
-outcome_terms_differ (Answer o) (Answer p) e = ap Answer (same_outcome o p (ap (λ t. t.values) e))
-outcome_terms_differ (Answer o) (No r) e = answer_no o r e
-outcome_terms_differ (No r) (Answer o) e = answer_no o r (sym e)
-outcome_terms_differ (No q) (No r) e = ap No (same_refusal q r e)
+outcome_terms_differ (Ok o) (Ok p) e = ap Ok (same_outcome o p (ap (λ t. t.values) e))
+outcome_terms_differ (Ok o) (Err r) e = answer_no o r e
+outcome_terms_differ (Err r) (Ok o) e = answer_no o r (sym e)
+outcome_terms_differ (Err q) (Err r) e = ap Err (same_refusal q r e)
 
-pub count_terms_differ : (a b : CountAnswer) → count_terms a ≡ count_terms b → a ≡ b
+pub count_terms_differ : (a b : Result ℕ RefusalStruct) → count_terms a ≡ count_terms b → a ≡ b
 unfolding count_terms
-count_terms_differ (Count m) (Count n) e = let f : m ∷ [] ≡ n ∷ [] = ap (λ t. t.values) e in cc
-count_terms_differ (Count m) (CountNo r) e = told_apart m [] _ _ e
-count_terms_differ (CountNo r) (Count m) e = told_apart m [] _ _ (sym e)
-count_terms_differ (CountNo q) (CountNo r) e = ap CountNo (same_refusal q r e)
+count_terms_differ (Ok m) (Ok n) e = let f : m ∷ [] ≡ n ∷ [] = ap (λ t. t.values) e in cc
+count_terms_differ (Ok m) (Err r) e = told_apart m [] _ _ e
+count_terms_differ (Err r) (Ok m) e = told_apart m [] _ _ (sym e)
+count_terms_differ (Err q) (Err r) e = ap Err (same_refusal q r e)
 
 -- ---- a lent slice after a call
 module _ {A : Type 0} where

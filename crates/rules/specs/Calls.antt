@@ -1,6 +1,7 @@
 -- The three calls (01, Calls): each takes the plan's bytes; "Then 7, least place first; then 9, 11, 12, 10".
-use Rattle.std.specs.Prelude.{ℕ, cond, List, [], ◌∷◌, ◌++◌, leb, ltb, length, drop}
+use Rattle.std.specs.Prelude.{ℕ, cond, List, [], ◌∷◌, ◌++◌, leb, ltb, length, drop, Result, Ok, Err}
 use Rattle.rules.specs.Plan.{Plan}
+use Rattle.rules.specs.Refusals.{number_of}
 use Rattle.rules.specs.Conditions.{all_conditions, meets, meets_set}
 use Rattle.rules.specs.Outcomes.{starts, activity_at, placed, outcome}
 use Rattle.rules.specs.Reading.{Reading, accepted, refused, reading}
@@ -9,10 +10,7 @@ use Rattle.rules.specs.Report.{report}
 use Rattle.rules.specs.declared.Outcome.{Outcome}
 use Rattle.rules.specs.declared.Outcome.TheVariants.{Placed, Refused}
 use Rattle.rules.specs.declared.Interval.{Interval}
-use Rattle.rules.specs.declared.OutcomeAnswer.{OutcomeAnswer}
-use Rattle.rules.specs.declared.OutcomeAnswer.TheVariants.{Answer, No}
-use Rattle.rules.specs.declared.CountAnswer.{CountAnswer}
-use Rattle.rules.specs.declared.CountAnswer.TheVariants.{Count, No as CountNo}
+use Rattle.rules.specs.declared.Refusal.{Refusal as RefusalStruct}
 
 -- an answer in document 01's terms: the number and line of its refusal, 0 and 0 where there is none, and the values of the full result
 pub record Terms : Type 0 where
@@ -31,13 +29,13 @@ unfoldable pub outcome_values : Outcome → List ℕ
 outcome_values (Placed s) = 1 ∷ s ∷ []
 outcome_values (Refused m) = 0 ∷ m ∷ []
 
-unfoldable pub outcome_terms : OutcomeAnswer → Terms
-outcome_terms (Answer o) = full (outcome_values o)
-outcome_terms (No r) = refusal r.number r.line
+unfoldable pub outcome_terms : Result Outcome RefusalStruct → Terms
+outcome_terms (Ok o) = full (outcome_values o)
+outcome_terms (Err r) = refusal (number_of r.fault) r.line
 
-unfoldable pub count_terms : CountAnswer → Terms
-count_terms (Count n) = full (n ∷ [])
-count_terms (CountNo r) = refusal r.number r.line
+unfoldable pub count_terms : Result ℕ RefusalStruct → Terms
+count_terms (Ok n) = full (n ∷ [])
+count_terms (Err r) = refusal (number_of r.fault) r.line
 
 -- *Outcome*: a place
 unfoldable pub outcome_of : Reading → ℕ → Terms

@@ -5,6 +5,7 @@ pub mod Plan
 pub mod Number
 pub mod Lines
 pub mod Fields
+pub mod Refusals
 pub mod HeaderLine
 pub mod ActivityLine
 pub mod Order

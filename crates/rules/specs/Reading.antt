@@ -11,7 +11,7 @@ use Rattle.rules.specs.HeaderLine.{header_of}
 use Rattle.rules.specs.ActivityLine.{activity_of}
 use Rattle.rules.specs.Order.{order}
 use Rattle.rules.specs.MeetsB.{charge}
-use Rattle.rules.specs.declared.Refusal.{Refusal}
+use Rattle.rules.specs.Refusals.{Refusal}
 
 -- what is read: a plan, or one refusal
 pub data Reading : Type 0 where

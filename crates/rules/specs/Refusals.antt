@@ -1,10 +1,11 @@
 -- The refusals by their numbers (01, When the planner says no).
-use Rattle.std.specs.Prelude.{ℕ}
+use Rattle.std.specs.Prelude.{ℕ, Result, Ok, Err}
+use Rattle.rules.specs.Fields.{Read, value, fault}
 use Rattle.rules.specs.declared.Fault.{Fault}
 use Rattle.rules.specs.declared.Fault.TheVariants.{TooLong, NotFormed, Malformed, OutOfRange, TooMany, Repeated, Misplaced, NotRising, OutOfReach, NoRoom, NoPlace, NoSet}
 use Rattle.rules.specs.declared.Refusal.{Refusal as RefusalStruct}
 
-unfoldable pub number_of : Fault → ℕ
+abbrev pub number_of : Fault → ℕ
 number_of TooLong = 1
 number_of NotFormed = 2
 number_of Malformed = 3
@@ -26,3 +27,8 @@ pub record Refusal : Type 0 where
 -- the refusal that the code holds as a fault and a line
 unfoldable pub refusal_view : RefusalStruct → Refusal
 refusal_view r = record { number = number_of r.fault; line = r.line }
+
+-- what a function that reads answers, in the definitions' terms: the value, or the number of the fault
+unfoldable pub read_as : {A B : Type 0} → (A → B) → Result A Fault → Read B
+read_as view (Ok a) = value (view a)
+read_as view (Err f) = fault (number_of f)

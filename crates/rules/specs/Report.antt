@@ -11,7 +11,7 @@ use Rattle.rules.specs.Outcomes.{activity_at, outcome, finished}
 use Rattle.rules.specs.Reading.{Reading, accepted, refused, reading}
 use Rattle.rules.specs.declared.Outcome.{Outcome}
 use Rattle.rules.specs.declared.Outcome.TheVariants.{Placed, Refused}
-use Rattle.rules.specs.declared.Refusal.{Refusal}
+use Rattle.rules.specs.Refusals.{Refusal}
 
 -- "`id⇥placed⇥start⇥end` or `id⇥refused⇥letters`"
 unfoldable pub outcome_line : Activity → Outcome → List ℕ

@@ -108,10 +108,5 @@ pub fn among(xs: &[u32], n: usize, x: u32) -> bool
     requires { n ≤ length xs.now }
     ensures { result ≡ any_of (eqb x) (take n xs.now) }
 {
-    for i in 0..n {
-        if x == xs[i] {
-            return true;
-        }
-    }
-    false
+    xs[..n].contains(&x)
 }

@@ -18,11 +18,11 @@ slice_range-put_mid a k n xs ys within fits =
     let after = post_of a k xs in
     ap (take ((a + n) - a)) (drop_at (take a xs) (ys ++ after) a (length-take-le a xs within)) ∙ ap (λ m. take m (ys ++ after)) same ∙ take-append-le n ys after fits
 
-pub loop-at-preserved : goal.loop-at-preserved
-loop-at-preserved g c =
-    let from = c.loop-at.at in
-    let room = length c.loop-at.buf - from in
-    let within = c.loop-at.invariant.0 in
-    let part = slice_range-put_mid from room c.in-Ok.more c.loop-at.buf c.read.new.buf within c.in-Ok.ensures.bound.0 in
-    let joined = take_split from (from + c.in-Ok.more) c.loop-at.buf (put_mid from room c.loop-at.buf c.read.new.buf) (omega arith) (take-put_mid_below _ _ _ _ _ (le_refl _) within) in
-    (search rules, subst (Consumes _ _) (ap (λ l. take from c.loop-at.buf ++ l) (sym part) ∙ joined) (Consumes-trans _ _ _ _ _ c.loop-at.invariant.1 c.in-Ok.ensures.bytes.0))
+pub loop-count-preserved : goal.loop-count-preserved
+loop-count-preserved g c =
+    let from = c.loop-count.count in
+    let room = length c.loop-count.buf - from in
+    let within = c.loop-count.invariant.0 in
+    let part = slice_range-put_mid from room c.in-Ok.more c.loop-count.buf c.read.new.buf within c.in-Ok.ensures.bound.0 in
+    let joined = take_split from (from + c.in-Ok.more) c.loop-count.buf (put_mid from room c.loop-count.buf c.read.new.buf) (omega arith) (take-put_mid_below _ _ _ _ _ (le_refl _) within) in
+    (search rules, subst (Consumes _ _) (ap (λ l. take from c.loop-count.buf ++ l) (sym part) ∙ joined) (Consumes-trans _ _ _ _ _ c.loop-count.invariant.1 c.in-Ok.ensures.bytes.0))

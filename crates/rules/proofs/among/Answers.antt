@@ -1,12 +1,9 @@
--- One that is x is found among the first n, and where none of them is, none is found.
-use Rattle.std.proofs.Common.{◌≡◌, sym, eqb, eq-eqb, arith}
-use Rattle.rules.proofs.Lists.{any_at, any_none}
+-- The library's search is the definition's.
+use Rattle.std.proofs.Common.{sym, ◌∙◌, eqb, take}
+use Rattle.rules.proofs.Library.{any_is, any_same, eqb_swap}
 use Rattle.rules.proofs.among.Goals as goal
-
-pub returns-then-x-xs : goal.returns-then-x-xs
-returns-then-x-xs c = sym (any_at (eqb c.args.x) 0 c.args.xs.now c.args.n c.loop-i.i (omega arith) (omega arith) (eq-eqb _ _ c.if-x-xs.true))
 
 pub returns : goal.returns
 returns c =
-    let e : c.args.n ≡ c.loop-i.i = omega arith in
-    sym (any_none (eqb c.args.x) 0 c.args.xs.now c.args.n (rw e c.loop-i.invariant))
+    let xs = take c.args.n c.args.xs.now in
+    c.contains.ensures.value ∙ any_same (λ y. eqb y c.args.x) (eqb c.args.x) (λ y. eqb_swap y c.args.x) xs ∙ sym (any_is (eqb c.args.x) xs)

@@ -10,4 +10,4 @@ returns-then-warm-eq0 c = rw (eq-eqb _ _ c.if-warm-eq0.true)
 
 pub returns : goal.returns
 unfolding warmup_at warmup_entry apart table_from
-returns c = rw (ne_eqb _ _ c.if-warm-eq0.false) (entry_at warmup_entry 288 _ (omega arith))
+returns c = rw c.from.ensures rw c.from-2.ensures rw (ne_eqb _ _ c.if-warm-eq0.false) (entry_at warmup_entry 288 _ (omega arith))

@@ -1,0 +1,27 @@
+-- The definitions' tests over lists in the library's words.
+-- Assumes nothing.
+use Rattle.std.proofs.Common.{arith, ◌≡◌, ℕ, Bool, ◌&&◌, ◌||◌, List, [], ◌∷◌, eqb, refl, ap, ap₂}
+use Rattle.std.specs.List.{list_any, list_all}
+use Rattle.std.proofs.lemmas.Bool.{eqb-true, eq-eqb}
+use Rattle.rules.specs.Tests.{any_of, every}
+
+pub any_is : {A : Type 0} (p : A → Bool) (xs : List A) → any_of p xs ≡ list_any p xs
+unfolding any_of
+any_is p [] = refl
+any_is p (x ∷ xs) = ap (λ b. p x || b) (any_is p xs)
+
+pub every_is : {A : Type 0} (p : A → Bool) (xs : List A) → every p xs ≡ list_all p xs
+unfolding every
+every_is p [] = refl
+every_is p (x ∷ xs) = ap (λ b. p x && b) (every_is p xs)
+
+pub any_same : {A : Type 0} (p q : A → Bool) → ((x : A) → p x ≡ q x) → (xs : List A) → list_any p xs ≡ list_any q xs
+any_same p q e [] = refl
+any_same p q e (x ∷ xs) = ap₂ ◌||◌ (e x) (any_same p q e xs)
+
+pub every_same : {A : Type 0} (p q : A → Bool) → ((x : A) → p x ≡ q x) → (xs : List A) → list_all p xs ≡ list_all q xs
+every_same p q e [] = refl
+every_same p q e (x ∷ xs) = ap₂ ◌&&◌ (e x) (every_same p q e xs)
+
+pub eqb_swap : (x y : ℕ) → eqb x y ≡ eqb y x
+eqb_swap x y = grind (arith, eqb-true, eq-eqb)
