@@ -3,4 +3,5 @@
 pub mod field;
 pub mod list;
 pub mod number;
+pub mod parts;
 pub mod word;

@@ -1,5 +1,5 @@
 // List fields: items parted by commas, each a number or two numbers around a byte, with the faults 3, 4 and 8 over the whole field.
-ghost use Rattle.std.specs.Prelude.{◌≡◌, true, List, [], ◌∷◌, ℕ};
+ghost use Rattle.std.specs.Prelude.{◌≡◌, ◌≤◌, true, List, [], ◌∷◌, ℕ, length};
 ghost use Rattle.rules.specs.Fields.{list_field};
 ghost use Rattle.rules.specs.Refusals.{read_as};
 ghost use Rattle.text.specs.Text.{pair_is, item_is, is_item, item_of, item, kind_of};
@@ -7,6 +7,7 @@ ghost use Rattle.text.specs.Cursor.{items_from};
 
 use crate::field::find;
 use crate::number::read_number;
+use crate::parts::Parts;
 use items::{Item, Items};
 use rules::Fault;
 
@@ -48,10 +49,12 @@ fn read_item(s: &[u8], mark: Option<u8>) -> Option<(u64, u64)>
 
 // What was read of a list: the fault of an item out of range or, where there is none, of one that did not rise or was too many;
 // the least that may follow; and the items.
+#[derive(Drop)]
 struct Tally<const N: usize> {
     fault: Option<Fault>,
     least: u64,
     items: Items<N>,
+    ghost few: { length items ≤ N },
 }
 
 impl<const N: usize> Tally<N> {
@@ -77,7 +80,7 @@ impl<const N: usize> Tally<N> {
 
     // What the whole list says, once its last item is counted in.
     fn finish(self) -> Result<Items<N>, Fault>
-        ensures { (form : Form) → read_as (λ xs. xs) result ≡ items_from (kind_of form N) self.fault self.least self.items [] }
+        ensures { (form : Form) → read_as (λ xs. xs) result ≡ items_from (kind_of form N) self.entry.fault self.entry.least self.entry.items [] }
     {
         match self.fault {
             Some(fault) => Err(fault),
@@ -88,9 +91,10 @@ impl<const N: usize> Tally<N> {
 
 // The list field s of this form, of at most N items.
 pub fn read_list<const N: usize>(s: &[u8], form: Form) -> Result<Items<N>, Fault>
+    requires { N ≤ 32 }
     ensures { read_as (λ xs. xs) result ≡ list_field (kind_of form N) s.now }
 {
-    if s == b"-" {
+    if s == b"-".as_slice() {
         return Ok(Items::new());
     }
     let mut tally = Tally {
@@ -98,7 +102,8 @@ pub fn read_list<const N: usize>(s: &[u8], form: Form) -> Result<Items<N>, Fault
         least: 0,
         items: Items::new(),
     };
-    for part in s.split(|b| *b == b',') {
+    let mut parts = Parts::of(s, b',');
+    while let Some(part) = parts.next() {
         let Some((a, b)) = read_item(part, form.mark) else {
             return Err(Fault::Malformed);
         };
