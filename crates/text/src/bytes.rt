@@ -48,10 +48,11 @@ impl<const N: usize> Bytes<N> {
         self.count = put_bytes(&mut self.room, self.count, word);
     }
 
-    // Writes the digits of a number.
+    // Writes the digits of a number, at most 20.
     pub fn push_number(&mut self, x: u64)
-        requires { length self.old + length (decimal x) ≤ N }
-        ensures { self.new ≡ self.old ++ decimal x }
+        requires { length self.old + 20 ≤ N }
+        ensures text { self.new ≡ self.old ++ decimal x }
+        ensures within { length self.new ≤ length self.old + 20 }
     {
         self.count = put_number(&mut self.room, self.count, x);
     }
