@@ -8,8 +8,8 @@ use Rattle.rules.specs.Open.{opened}
 use Rattle.rules.specs.Report.{output}
 use Rattle.rules.specs.Calls.{outcome_terms, count_terms, outcome_call, slice_after, report_call, starts_call}
 use Rattle.rules.specs.declared.Outcome.TheVariants.{Placed, Refused}
-use Rattle.rules.specs.declared.OutcomeAnswer.TheVariants.{Answer, No}
-use Rattle.rules.specs.declared.CountAnswer.TheVariants.{Count, No as CountNo}
+use Rattle.rules.specs.declared.Fault.TheVariants.{OutOfRange}
+use Rattle.std.specs.Prelude.{Ok, Err}
 use Rattle.cases.proofs.Inputs.{tabbed}
 use Rattle.cases.proofs.Rows.{all, rows_opened, answers, equal, terms_are}
 
@@ -50,11 +50,11 @@ outcome_examples =
     ∷ terms_are (report_call (tabbed "plan 1 0 1 0 0 0 0 0 0 0 0\n") 11).terms 10 0 []
     ∷ equal (report_call (tabbed "plan 1 0 1 0 0 0 0 0 0 0 0\n") 11).written []
     -- an answer in the document's terms
-    ∷ terms_are (outcome_terms (Answer (Placed 5))) 0 0 (1 ∷ 5 ∷ [])
-    ∷ terms_are (outcome_terms (Answer (Refused 3))) 0 0 (0 ∷ 3 ∷ [])
-    ∷ terms_are (outcome_terms (No (record { number = 4; line = 2 }))) 4 2 []
-    ∷ terms_are (count_terms (Count 7)) 0 0 (7 ∷ [])
-    ∷ terms_are (count_terms (CountNo (record { number = 4; line = 2 }))) 4 2 []
+    ∷ terms_are (outcome_terms (Ok (Placed 5))) 0 0 (1 ∷ 5 ∷ [])
+    ∷ terms_are (outcome_terms (Ok (Refused 3))) 0 0 (0 ∷ 3 ∷ [])
+    ∷ terms_are (outcome_terms (Err (record { fault = OutOfRange; line = 2 }))) 4 2 []
+    ∷ terms_are (count_terms (Ok 7)) 0 0 (7 ∷ [])
+    ∷ terms_are (count_terms (Err (record { fault = OutOfRange; line = 2 }))) 4 2 []
     -- a lent slice after the call: what is written, and behind it what was there
     ∷ equal (slice_after (1 ∷ 2 ∷ []) (7 ∷ 8 ∷ 9 ∷ [])) (1 ∷ 2 ∷ 9 ∷ [])
     ∷ equal (slice_after [] (7 ∷ 8 ∷ [])) (7 ∷ 8 ∷ [])

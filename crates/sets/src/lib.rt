@@ -3,13 +3,14 @@
 // the table of sets, one for each start of a candidate.
 pub mod table;
 
-ghost use Rattle.std.specs.Prelude.{◌≡◌, ◌||◌, not, ◌<◌, ◌≤◌, get_or};
+ghost use Rattle.std.specs.Prelude.{◌≡◌, ◌<◌, ◌≤◌, get_or};
 ghost use Rattle.rules.specs.Conditions.{condition_count, all_conditions, condition_letters, has};
 ghost use Rattle.sets.specs.Sets.{bit_of, holds_set};
 
-use rules::CONDITIONS;
+use rules::ALL_CONDITIONS;
 
-// The bit of condition number c.
+// The bit of condition number c, by a match as document 01 asks.
+#[tactic(auto, unfolding(crate::specs::Sets::bit_of))]
 pub fn bit(c: u32) -> u16
     ensures { (result ≡ bit_of c) × (result ≤ all_conditions) }
 {
@@ -27,7 +28,8 @@ pub fn bit(c: u32) -> u16
     }
 }
 
-// The letter of condition number c.
+// The letter of condition number c, by a match as document 01 asks.
+#[tactic(auto, unfolding(rules::specs::Conditions::condition_letters))]
 pub fn letter(c: u32) -> u8
     ensures { result ≡ get_or condition_letters c 0 }
 {
@@ -46,33 +48,18 @@ pub fn letter(c: u32) -> u8
 }
 
 // Whether a set has condition number c.
+#[tactic(auto, using(std::proofs::lemmas::Nat::Bits::shr_and_one), unfolding(rules::specs::Conditions::has))]
 pub fn has_condition(set: u32, c: u32) -> bool
     requires { c < condition_count }
     ensures { result ≡ has set c }
 {
-    let by = bit(c) as u32;
-    set / by % 2 == 1
-}
-
-// Whether the entry has condition number c if the set has it.
-fn has_if(entry: u16, set: u16, c: u32) -> bool
-    requires { c < condition_count }
-    ensures { result ≡ (not (has set c) || has entry c) }
-{
-    if has_condition(set as u32, c) {
-        return has_condition(entry as u32, c);
-    }
-    true
+    set >> c & 1 == 1
 }
 
 // Whether the entry has every condition of the set.
+#[tactic(auto, using(crate::proofs::Masks::lacks_none))]
 pub fn contains(entry: u16, set: u16) -> bool
     ensures { result ≡ holds_set entry set }
 {
-    for c in 0..CONDITIONS {
-        if !has_if(entry, set, c) {
-            return false;
-        }
-    }
-    true
+    set & ALL_CONDITIONS & !entry == 0
 }
