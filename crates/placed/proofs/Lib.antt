@@ -1,6 +1,5 @@
 pub mod Raising
 pub mod Rows
 pub mod Given
-pub mod Writing
 pub mod Filling
 pub mod Bounding

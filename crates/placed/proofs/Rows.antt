@@ -1,4 +1,4 @@
--- What is known of the rows of the tables, by place and by entry.
+-- What is known of the rows, by place and by entry.
 -- Assumes nothing.
 use Prim.Native.Nat.{ℕ, zero, suc, ◌+◌, ◌<◌}
 use mathlib.Core.Path.{◌≡◌, refl, sym, ap, subst}
@@ -6,12 +6,14 @@ use mathlib.Core.List.{List, [], ◌∷◌, Memᴰ}
 use native.Mathlib.Omega.{arith}
 use native.Mathlib.Nat.{not-suc-le-zero}
 use native.Mathlib.Numerals.{add-one}
-use lib.ListN.{length}
+use Rattle.std.proofs.Common.{get_or-take}
+use lib.ListN.{length, take}
 use Rattle.rules.specs.Plan.{Entry, Schedule}
 use Rattle.rules.specs.Tests.{total}
 use Rattle.rules.specs.MeetsV.{total_volume}
 use Rattle.rules.proofs.Tests.{last_or}
-use Rattle.placed.specs.Tables.{volume_at, volumes_in}
+use Rattle.placed.specs.Tables.{no_row, row_in, volume_at, volumes_in}
+use Rattle.placed.specs.declared.row.Row.{Row}
 use Rattle.placed.specs.Held.{AmountsAt, Rows}
 
 -- there are as many rows as entries
@@ -60,14 +62,18 @@ unfolding Rows
 rows_none P = tt
 
 -- ---- sums over the rows
-pub volumes_more : (amounts : List ℕ) (n : ℕ) → volumes_in amounts (n + 1) ≡ volume_at amounts n + volumes_in amounts n
+pub volumes_more : (rows : List Row) (n : ℕ) → volumes_in rows (n + 1) ≡ volume_at rows n + volumes_in rows n
 unfolding volumes_in
-volumes_more amounts n = rw add-one
+volumes_more rows n = rw add-one
 
 -- the sum over the rows is that over the schedule
-pub volumes_are : (amounts : List ℕ) (n : ℕ) (placed : Schedule) → Rows (λ i e. AmountsAt amounts i e.activity) n placed → volumes_in amounts n ≡ total_volume placed
+pub volumes_are : (rows : List Row) (n : ℕ) (placed : Schedule) → Rows (λ i e. AmountsAt rows i e.activity) n placed → volumes_in rows n ≡ total_volume placed
 unfolding Rows volumes_in total_volume total
-volumes_are amounts zero [] r = refl
-volumes_are amounts zero (e ∷ placed) r = elim r [ ]
-volumes_are amounts (suc n) [] r = elim r [ ]
-volumes_are amounts (suc n) (e ∷ placed) r = rw (r.0.volume, volumes_are amounts n placed r.1)
+volumes_are rows zero [] r = refl
+volumes_are rows zero (e ∷ placed) r = elim r [ ]
+volumes_are rows (suc n) [] r = elim r [ ]
+volumes_are rows (suc n) (e ∷ placed) r = rw (r.0.volume, volumes_are rows n placed r.1)
+
+-- a row of those taken
+pub row_taken : (rows : List Row) (n i : ℕ) → i < n → row_in (take n rows) i ≡ row_in rows i
+row_taken rows n i k = get_or-take n rows i no_row k

@@ -1,47 +1,60 @@
--- What is placed as the code holds it: the entry of each placed activity is a row in each of four tables of numbers, by place. The row behind them is the candidate's, which has no ticks yet.
-use Rattle.std.specs.Prelude.{ℕ, zero, suc, ◌+◌, ◌*◌, List, get_or}
+-- What is placed as the code holds it: the entry of each placed activity is a row of numbers, by place. The row behind them is the candidate's, which has no ticks yet.
+use Rattle.std.specs.Prelude.{ℕ, zero, suc, ◌+◌, Bool, false, List, [], get_or}
+use Rattle.placed.specs.declared.row.Need.{Need}
+use Rattle.placed.specs.declared.row.Row.{Row}
 
--- ticks, four to a row: the id, the heater's begin, the start, the end
-abbrev pub id_at : List ℕ → ℕ → ℕ
-id_at ticks i = get_or ticks (i * 4) 0
+-- the need and the row of nothing, which stand beyond the end of a list
+abbrev pub no_need : Need
+no_need = record { variable = 0; code = 0 }
 
-abbrev pub heat_at : List ℕ → ℕ → ℕ
-heat_at ticks i = get_or ticks (i * 4 + 1) 0
+abbrev pub no_row : Row
+no_row = record { id = 0; heat = 0; start = 0; end = 0; engines = 0; peak = 0; draw = 0; volume = 0; sets = []; needs = []; units = [] }
 
-abbrev pub start_at : List ℕ → ℕ → ℕ
-start_at ticks i = get_or ticks (i * 4 + 2) 0
+-- row i
+abbrev pub row_in : List Row → ℕ → Row
+row_in rows i = get_or rows i no_row
 
-abbrev pub end_at : List ℕ → ℕ → ℕ
-end_at ticks i = get_or ticks (i * 4 + 3) 0
+-- when it heats, starts and ends
+abbrev pub id_at : List Row → ℕ → ℕ
+id_at rows i = (row_in rows i).id
 
--- amounts, four to a row: engines, peak, draw, volume
-abbrev pub engines_at : List ℕ → ℕ → ℕ
-engines_at amounts i = get_or amounts (i * 4) 0
+abbrev pub heat_at : List Row → ℕ → ℕ
+heat_at rows i = (row_in rows i).heat
 
-abbrev pub peak_at : List ℕ → ℕ → ℕ
-peak_at amounts i = get_or amounts (i * 4 + 1) 0
+abbrev pub start_at : List Row → ℕ → ℕ
+start_at rows i = (row_in rows i).start
 
-abbrev pub draw_at : List ℕ → ℕ → ℕ
-draw_at amounts i = get_or amounts (i * 4 + 2) 0
+abbrev pub end_at : List Row → ℕ → ℕ
+end_at rows i = (row_in rows i).end
 
-abbrev pub volume_at : List ℕ → ℕ → ℕ
-volume_at amounts i = get_or amounts (i * 4 + 3) 0
+-- what it loads
+abbrev pub engines_at : List Row → ℕ → ℕ
+engines_at rows i = (row_in rows i).engines
+
+abbrev pub peak_at : List Row → ℕ → ℕ
+peak_at rows i = (row_in rows i).peak
+
+abbrev pub draw_at : List Row → ℕ → ℕ
+draw_at rows i = (row_in rows i).draw
+
+abbrev pub volume_at : List Row → ℕ → ℕ
+volume_at rows i = (row_in rows i).volume
 
 -- the volumes of the first n rows, summed
-unfoldable pub volumes_in : List ℕ → ℕ → ℕ
-volumes_in amounts zero = 0
-volumes_in amounts (suc n) = volume_at amounts n + volumes_in amounts n
+unfoldable pub volumes_in : List Row → ℕ → ℕ
+volumes_in rows zero = 0
+volumes_in rows (suc n) = volume_at rows n + volumes_in rows n
 
--- settings, sixteen to a row: what its sets give each of the eight variables; the variables of its four needs; their values. Values stand as codes: one more than the value, and 0 for none
-abbrev pub set_at : List ℕ → ℕ → ℕ → ℕ
-set_at settings i v = get_or settings (i * 16 + v) 0
+-- what its sets give each of the eight variables, and its four needs. Values stand as codes: one more than the value, and 0 for none
+abbrev pub set_at : List Row → ℕ → ℕ → ℕ
+set_at rows i v = get_or (row_in rows i).sets v 0
 
-abbrev pub need_variable_at : List ℕ → ℕ → ℕ → ℕ
-need_variable_at settings i j = get_or settings (i * 16 + 8 + j) 0
+abbrev pub need_variable_at : List Row → ℕ → ℕ → ℕ
+need_variable_at rows i j = (get_or (row_in rows i).needs j no_need).variable
 
-abbrev pub need_code_at : List ℕ → ℕ → ℕ → ℕ
-need_code_at settings i j = get_or settings (i * 16 + 12 + j) 0
+abbrev pub need_code_at : List Row → ℕ → ℕ → ℕ
+need_code_at rows i j = (get_or (row_in rows i).needs j no_need).code
 
--- units, thirty-two to a row: 1 where it has the unit, else 0
-abbrev pub unit_at : List ℕ → ℕ → ℕ → ℕ
-unit_at units i u = get_or units (i * 32 + u) 0
+-- whether it has the unit u
+abbrev pub unit_at : List Row → ℕ → ℕ → Bool
+unit_at rows i u = get_or (row_in rows i).units u false

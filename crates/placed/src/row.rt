@@ -1,65 +1,116 @@
-// The candidate's row of the tables.
-ghost use Rattle.std.specs.Prelude.{◌≡◌, ◌*◌, ◌<◌, length};
+// A row: an activity, and its ticks once it is placed.
+ghost use Rattle.std.specs.Prelude.{◌≡◌, ℕ, ◌<◌, false, eqb, get_or, map};
+ghost use Rattle.std.specs.List.{list_any};
+ghost use Rattle.rules.specs.MeetsS.{given};
 ghost use Rattle.rules.specs.WellFormed.{SettingsFormed};
-ghost use Rattle.activity.specs.View.{Sized, activity_view};
-ghost use Rattle.placed.specs.Held.{AmountsAt, SettingsAt, CandidateAt};
-ghost use Rattle.placed.specs.Written.{SameBelow};
+ghost use Rattle.activity.specs.View.{setting_of, activity_view};
+ghost use Rattle.placed.specs.Held.{code_of, SetsSay, VariablesSay, CodesSay, ActivitySays};
 
-use crate::settings::{put_sets, put_values, put_variables};
-use crate::units::put_units;
-use crate::{AMOUNT_CELLS, SETTING_CELLS, UNIT_CELLS};
 use activity::Activity;
+use items::Item;
+use std::array;
 
-// Writes row n of the settings: the sets and needs of an activity.
-fn put_settings(activity: Activity, n: usize, settings: &mut [u16; SETTING_CELLS])
-    requires n_bound { (n < 64) × Sized activity × (length settings.old ≡ 1024) }
-    requires settings_formed { SettingsFormed (activity_view activity).needs × SettingsFormed (activity_view activity).sets }
-    ensures { (length settings.new ≡ 1024) × SameBelow (n * 16) settings.old settings.new × SettingsAt settings.new n (activity_view activity) }
-{
-    let base = n * 16;
-    let set_variables = activity.set_variable;
-    let set_values = activity.set_value;
-    put_sets(
-        &set_variables,
-        &set_values,
-        activity.set_count,
-        base,
-        settings,
-    );
-    let need_variables = activity.need_variable;
-    put_variables(&need_variables, activity.need_count, base + 8, settings);
-    let need_values = activity.need_value;
-    put_values(&need_values, activity.need_count, base + 12, settings);
+// A need: its variable, and the code of its value.
+#[derive(Clone, Copy)]
+pub struct Need {
+    pub variable: u16,
+    pub code: u16,
 }
 
-// Writes row n of the amounts.
-fn put_amounts(activity: Activity, n: usize, amounts: &mut [u32; AMOUNT_CELLS])
-    requires { (n < 64) × (length amounts.old ≡ 256) }
-    ensures { (length amounts.new ≡ 256) × SameBelow (n * 4) amounts.old amounts.new × AmountsAt amounts.new n (activity_view activity) }
-{
-    let base = n * 4;
-    amounts[base] = activity.engines;
-    amounts[base + 1] = activity.peak;
-    amounts[base + 2] = activity.draw;
-    amounts[base + 3] = activity.volume;
+// An entry: when it heats, starts and ends, what it loads, the codes that its sets give the eight variables, its needs, and
+// which of the 32 units it has. A code is one more than a value, and 0 for none, since condition S compares values and
+// their absence in its inner loop.
+#[derive(Clone, Copy)]
+pub struct Row {
+    pub id: u16,
+    pub heat: u16,
+    pub start: u16,
+    pub end: u16,
+    pub engines: u32,
+    pub peak: u32,
+    pub draw: u32,
+    pub volume: u32,
+    pub sets: [u16; 8],
+    pub needs: [Need; 4],
+    pub units: [bool; 32],
 }
 
-// Writes row n of the tables but the ticks: what an activity is wherever it starts.
-pub fn put_candidate(
-    activity: Activity,
-    n: usize,
-    amounts: &mut [u32; AMOUNT_CELLS],
-    settings: &mut [u16; SETTING_CELLS],
-    units: &mut [u8; UNIT_CELLS],
-)
-    requires n_bound { (n < 64) × Sized activity × SettingsFormed (activity_view activity).needs × SettingsFormed (activity_view activity).sets }
-    requires amounts_len { (length amounts.old ≡ 256) × (length settings.old ≡ 1024) × (length units.old ≡ 2048) }
-    ensures candidate_at { CandidateAt amounts.new settings.new units.new n (activity_view activity) }
-    ensures amounts_len_2 { (length amounts.new ≡ 256) × (length settings.new ≡ 1024) × (length units.new ≡ 2048) }
-    ensures same_below { SameBelow (n * 4) amounts.old amounts.new × SameBelow (n * 16) settings.old settings.new × SameBelow (n * 32) units.old units.new }
+// The code of what settings give a variable.
+fn code_of(settings: &[Item], variable: u32) -> u16
+    requires { SettingsFormed (map setting_of settings.now) }
+    ensures { result ≡ code_of (given (map setting_of settings.now) variable) }
 {
-    put_amounts(activity, n, amounts);
-    put_settings(activity, n, settings);
-    let has = activity.units;
-    put_units(&has, activity.unit_count, n * 32, units);
+    for setting in settings {
+        if setting.first == variable {
+            return setting.second as u16 + 1;
+        }
+    }
+    0
+}
+
+// The codes that an activity's sets give the eight variables.
+fn sets_of(sets: &[Item]) -> [u16; 8]
+    requires { SettingsFormed (map setting_of sets.now) }
+    ensures { SetsSay result (map setting_of sets.now) }
+{
+    array::from_fn(|variable| code_of(sets, variable as u32))
+}
+
+// An activity's needs, in four.
+fn needs_of(needs: &[Item]) -> [Need; 4]
+    requires { SettingsFormed (map setting_of needs.now) }
+    ensures variables { VariablesSay result (map setting_of needs.now) }
+    ensures codes { CodesSay result (map setting_of needs.now) }
+{
+    let none = Need {
+        variable: 0,
+        code: 0,
+    };
+    let mut rows = [none; 4];
+    for (j, need) in needs.iter().enumerate() {
+        rows[j] = Need {
+            variable: need.first as u16,
+            code: need.second as u16 + 1,
+        };
+    }
+    rows
+}
+
+// Whether a unit is among these.
+fn has_unit(units: &[Item], unit: usize) -> bool
+    ensures { result ≡ list_any (λ item. eqb unit item.first) units.now }
+{
+    units.iter().any(|item| unit == item.first as usize)
+}
+
+// Which of the 32 units an activity has.
+fn units_of(units: &[Item]) -> [bool; 32]
+    ensures { (u : ℕ) → u < 32 → get_or result u false ≡ list_any (λ item. eqb u item.first) units.now }
+{
+    let mut flags = [false; 32];
+    for (unit, flag) in flags.iter_mut().enumerate() {
+        *flag = has_unit(units, unit);
+    }
+    flags
+}
+
+// The row of an activity that has no ticks yet.
+#[tactic(auto, using(crate::proofs::Given::units_say), unfolding(activity::specs::View::activity_view))]
+pub fn row_of(activity: &Activity) -> Row
+    requires { SettingsFormed (activity_view activity.now).needs × SettingsFormed (activity_view activity.now).sets }
+    ensures { ActivitySays result (activity_view activity.now) }
+{
+    Row {
+        id: 0,
+        heat: 0,
+        start: 0,
+        end: 0,
+        engines: activity.engines,
+        peak: activity.peak,
+        draw: activity.draw,
+        volume: activity.volume,
+        sets: sets_of(activity.sets.as_slice()),
+        needs: needs_of(activity.needs.as_slice()),
+        units: units_of(activity.units.as_slice()),
+    }
 }

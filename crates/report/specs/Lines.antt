@@ -1,17 +1,11 @@
 -- The lines of a report, over the numbers in them.
-use Rattle.std.specs.Prelude.{ℕ, ◌+◌, ◌≡◌, List, [], ◌∷◌, length}
+use Rattle.std.specs.Prelude.{ℕ, ◌+◌, List, [], ◌∷◌}
 use Rattle.rules.specs.Bytes.{bytes}
 use Rattle.rules.specs.Number.{decimal}
 use Rattle.rules.specs.Lines.{line_of}
 use Rattle.rules.specs.Conditions.{letters_of}
-use Rattle.text.specs.Text.{put}
 use Rattle.rules.specs.declared.Outcome.{Outcome}
 use Rattle.rules.specs.declared.Outcome.TheVariants.{Placed, Refused}
-
--- w was written from index `at` on, and the next index is behind it
-pub record Wrote (old : List ℕ) (at : ℕ) (w new : List ℕ) (next : ℕ) : Type 0 where
-  pub holds : new ≡ put old at w
-  pub behind : next ≡ at + length w
 
 -- the most bytes of an activity's line, of the end line, of the `no` line and of a report, where each number is given 20 digits
 abbrev pub line_most : ℕ

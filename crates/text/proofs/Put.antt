@@ -64,3 +64,10 @@ put_one l at d h = sym (put_front l at d [] h ∙ put_nil (set l at d) (at + 1))
 -- a write after a write, as the code has it: m is what the first left, and a is the position that it answered
 pub put_then : (l m : List ℕ) (at a : ℕ) (w v : List ℕ) → m ≡ put l at w → a ≡ at + length w → at + length w + length v ≤ length l → put m a v ≡ put l at (w ++ v)
 put_then l m at a w v e f h = rw (e, f) (put_put l at w v h)
+
+-- what stands up to the end of what is written
+pub put_end : (l : List ℕ) (n : ℕ) (w : List ℕ) → n + length w ≤ length l → take (n + length w) (put l n w) ≡ take n l ++ w
+unfolding put
+put_end l n w h =
+    let e : length (take n l ++ w) ≡ n + length w = simp length-append (omega (arith, length-take-le n l (omega arith))) in
+    ap (take (n + length w)) (sym (append_assoc (take n l) w (drop (n + length w) l))) ∙ take_at (take n l ++ w) (drop (n + length w) l) (n + length w) e

@@ -1,3 +1,2 @@
 pub mod Pieces
 pub mod Escapes
-pub mod WrongFields

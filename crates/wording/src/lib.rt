@@ -4,4 +4,3 @@
 pub mod shown;
 pub mod words;
 pub mod writing;
-pub mod wrong;

@@ -1,0 +1,107 @@
+// The rows of what is placed.
+ghost use Rattle.std.specs.Prelude.{◌≡◌, ℕ, ◌+◌, ◌<◌, ◌≤◌, length, get_or, take};
+ghost use Rattle.rules.specs.Plan.{at};
+ghost use Rattle.rules.specs.WellFormed.{SettingsFormed};
+ghost use Rattle.activity.specs.View.{header_view, activity_view};
+ghost use Rattle.placed.specs.Tables.{row_in, volumes_in};
+ghost use Rattle.placed.specs.Held.{TicksAt, CandidateAt};
+ghost use Rattle.placed.specs.Written.{SameBelow};
+
+use crate::row::{Need, Row, row_of};
+use crate::ticks::heater_from;
+use activity::{Activity, Header};
+use rules::PLACES;
+
+// A row for each place: the first `count` are placed, and the next is the candidate's.
+#[derive(Drop)]
+pub struct Placed {
+    pub rows: [Row; PLACES],
+    pub count: usize,
+}
+
+impl Placed {
+    // Nothing is placed.
+    pub fn new() -> Self
+        ensures { result.count ≡ 0 }
+    {
+        let no_need = Need {
+            variable: 0,
+            code: 0,
+        };
+        let no_row = Row {
+            id: 0,
+            heat: 0,
+            start: 0,
+            end: 0,
+            engines: 0,
+            peak: 0,
+            draw: 0,
+            volume: 0,
+            sets: [0; 8],
+            needs: [no_need; 4],
+            units: [false; 32],
+        };
+        Placed {
+            rows: [no_row; PLACES],
+            count: 0,
+        }
+    }
+
+    // The rows of what is placed.
+    pub fn entries(&self) -> &[Row]
+        requires { self.now.count ≤ 64 }
+        ensures value { result.now ≡ take self.now.count self.now.rows }
+        ensures size { length result.now ≡ self.now.count }
+    {
+        &self.rows[..self.count]
+    }
+
+    // The candidate's row.
+    pub fn candidate(&self) -> &Row
+        requires { self.now.count < 64 }
+        ensures { result.now ≡ row_in self.now.rows self.now.count }
+    {
+        &self.rows[self.count]
+    }
+
+    // Writes the candidate's row: what an activity is wherever it starts.
+    pub fn put_candidate(&mut self, activity: &Activity)
+        requires room { self.old.count < 64 }
+        requires settings_formed { SettingsFormed (activity_view activity.now).needs × SettingsFormed (activity_view activity.now).sets }
+        ensures counted { self.new.count ≡ self.old.count }
+        ensures candidate_at { CandidateAt self.new.rows self.new.count (activity_view activity.now) }
+        ensures same_below { SameBelow self.old.count self.old.rows self.new.rows }
+    {
+        self.rows[self.count] = row_of(activity);
+    }
+
+    // Places the candidate at this start: its row gets its ticks, and is counted in.
+    #[tactic(auto, unfolding(activity::specs::View::activity_view, activity::specs::View::header_view, rules::specs::Warmup::warmup))]
+    pub fn put_start(&mut self, header: Header, activity: &Activity, start: u32)
+        requires { (self.old.count < 64) × (activity.now.id ≤ 65535) × (start + activity.now.duration ≤ 4096) }
+        ensures counted { self.new.count ≡ self.old.count + 1 }
+        ensures ticks_at { TicksAt (header_view header) self.new.rows self.old.count (at (activity_view activity.now) start) }
+        ensures candidate_at { (a : _) → CandidateAt self.old.rows self.old.count a → CandidateAt self.new.rows self.old.count a }
+        ensures same_below { SameBelow self.old.count self.old.rows self.new.rows }
+    {
+        let heat = heater_from(header.minute, start, activity.warm);
+        let row = &mut self.rows[self.count];
+        row.id = activity.id as u16;
+        row.heat = heat as u16;
+        row.start = start as u16;
+        row.end = (start + activity.duration) as u16;
+        self.count += 1;
+    }
+
+    // The volumes of what is placed, summed.
+    pub fn total_volume(&self) -> u64
+        requires { self.now.count ≤ 64 }
+        ensures { (result ≡ volumes_in self.now.rows self.now.count) × (result ≤ 274877906944) }
+    {
+        let mut sum = 0;
+        for row in self.entries() {
+            sum += u64::from(row.volume);
+        }
+        sum
+    }
+}
