@@ -6,7 +6,7 @@ use mathlib.Core.List.{append-nil}
 use lib.Seq.{take-nil, drop-nil}
 use Rattle.text.specs.Text.{put}
 use Rattle.text.proofs.Put.{put_end}
-use Rattle.wording.specs.Writing.{part_most, part, Written, with_more}
+use Rattle.wording.specs.Writing.{part_most, part, Written, with_more, together}
 
 -- the front and the rest of two lists, one behind the other
 take_over : {A : Type 0} (n : ℕ) (xs ys : List A) → take n (xs ++ ys) ≡ take n xs ++ take (n - length xs) ys
@@ -52,6 +52,15 @@ more_then p u w =
     ∙ ap (λ (xs : List ℕ). p.bytes ++ xs) (sym (take_over m us ws) ∙ ap (take m) (sym (drop_over p.skip u w)))
     in
     same_written _ _ _ _ (omega (arith, length-append u w)) (ap (λ (k : ℕ). p.bytes ++ take m us ++ take k ws) left ∙ more)
+
+-- pieces written one behind the other
+abbrev pub written : Written → List (List ℕ) → Written
+written p [] = p
+written p (w ∷ ws) = written (with_more p w) ws
+
+pub pieces : (p : Written) (ws : List (List ℕ)) → written p ws ≡ with_more p (together ws)
+pieces p [] = sym (more_none p)
+pieces p (w ∷ ws) = pieces (with_more p w) ws ∙ more_then p w (together ws)
 
 -- a whole text leaves its part
 pub more_part : (from : ℕ) (text : List ℕ) → (with_more (record { skip = from; bytes = [] }) text).bytes ≡ part from text
