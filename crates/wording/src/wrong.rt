@@ -1,5 +1,5 @@
 // Which field of a line is the first that is wrong.
-ghost use Rattle.std.specs.Prelude.{◌≡◌, ◌≤◌, length};
+ghost use Rattle.std.specs.Prelude.{◌≡◌, ◌≤◌, length, not, position};
 ghost use Rattle.rules.specs.Lines.{split_on, field};
 ghost use Rattle.rules.specs.Fields.{number_field, list_field};
 ghost use Rattle.text.specs.Text.{kind_of};
@@ -35,12 +35,21 @@ fn is_list<const N: usize>(l: &[u8], k: usize, form: Form) -> bool
     read_list::<N>(field_at(l, k), form).is_ok()
 }
 
+// The index of the first that is not right.
+fn first_not(right: &[bool]) -> Option<usize>
+    ensures { result ≡ position not right.now }
+{
+    right.iter().position(|right| !right)
+}
+
 // The number of the first field that is not right, counted from 1.
+#[tactic(auto, using(crate::proofs::FirstWrong::wrong_at))]
 fn first_wrong(right: &[bool]) -> Option<u32>
     requires { length right.now ≤ 32 }
     ensures { result ≡ field_in (first_wrong 1 right.now) }
 {
-    right.iter().position(|right| !right).map(|i| i as u32 + 1)
+    let i = first_not(right)?;
+    Some(i as u32 + 1)
 }
 
 // The first wrong field of a plan's first line.
@@ -66,7 +75,7 @@ pub fn wrong_in_plan(l: &[u8]) -> Option<u32>
 }
 
 // The same of an activity's line in a plan of this horizon.
-#[tactic(auto, unfolding(crate::specs::FirstWrong::act_fields))]
+#[tactic(auto, using(crate::proofs::FirstWrong::windows_read, crate::proofs::FirstWrong::settings_read, crate::proofs::FirstWrong::numbers_read), unfolding(crate::specs::FirstWrong::act_fields))]
 pub fn wrong_in_act(l: &[u8], horizon: u32) -> Option<u32>
     ensures { result ≡ field_in (first_wrong 1 (act_fields horizon (split_on 9 l.now))) }
 {
