@@ -18,6 +18,8 @@ use Rattle.rules.specs.Reading.{out_of_reach}
 use Rattle.rules.proofs.Local.{bool_ext}
 use Rattle.activity.specs.View.{header_view}
 use Rattle.activity.specs.declared.Header.{Header as HeaderStruct}
+use Rattle.placed.specs.Tables.{row_in}
+use Rattle.placed.specs.declared.row.Row.{Row}
 use Rattle.placed.specs.Held.{TicksAt, AmountsAt, Rows}
 use Rattle.charge.specs.declared.draws.OwnDraw.{OwnDraw}
 use Rattle.charge.specs.Charge.{row_draw, draw_of, drawn_in, charge_next, charge_by, kept_by}
@@ -54,13 +56,13 @@ entry_draws h e t = go (ltb t e.start) refl
     go true f = rw (lt-leb e.start t (ltb-true _ _ f), heats_from e.start t (warmup h e.activity e.start)) (omega arith)
     go false f = rw (le-leb e.start t (ltb-false _ _ f)) (omega arith)
 
-module _ (h : HeaderStruct) (ticks amounts : List ℕ) where
+module _ (h : HeaderStruct) (rows : List Row) where
   -- a row that says an entry draws what it does
-  row_draws : (i : ℕ) (e : Entry) → TicksAt (header_view h) ticks i e → AmountsAt amounts i e.activity → row_draw h ticks amounts i ≡ entry_draw (header_view h) e
+  row_draws : (i : ℕ) (e : Entry) → TicksAt (header_view h) rows i e → AmountsAt rows i e.activity → row_draw h (row_in rows i) ≡ entry_draw (header_view h) e
   unfolding header_view
   row_draws i e p q = λ j. record { heat = p.heat j; start = p.start j; end = p.ends j; draw = q.draw j; heater = h.heater }
 
-  pub drawn_is : (n : ℕ) (placed : Schedule) → Rows (λ i e. TicksAt (header_view h) ticks i e × AmountsAt amounts i e.activity) n placed → (t : ℕ) → drawn_in h ticks amounts n t ≡ drawn (header_view h) placed t
+  pub drawn_is : (n : ℕ) (placed : Schedule) → Rows (λ i e. TicksAt (header_view h) rows i e × AmountsAt rows i e.activity) n placed → (t : ℕ) → drawn_in h rows n t ≡ drawn (header_view h) placed t
   unfolding Rows drawn_in drawn total
   drawn_is zero [] r t = refl
   drawn_is zero (e ∷ placed) r t = elim r [ ]
@@ -68,10 +70,10 @@ module _ (h : HeaderStruct) (ticks amounts : List ℕ) where
   drawn_is (suc n) (e ∷ placed) r t =
       λ i. ((ap (λ (o : OwnDraw). draw_of o t) (row_draws n e r.0.0 r.0.1) ∙ entry_draws (header_view h) e t) i) + drawn_is n placed r.1 t i
 
-  module _ (n : ℕ) (placed : Schedule) (rows : Rows (λ i e. TicksAt (header_view h) ticks i e × AmountsAt amounts i e.activity) n placed) where
+  module _ (n : ℕ) (placed : Schedule) (say : Rows (λ i e. TicksAt (header_view h) rows i e × AmountsAt rows i e.activity) n placed) where
     -- the placed alone
-    pub charge_kept_lem : kept_by h (drawn_in h ticks amounts n) ≡ charge_kept (header_view h) placed
-    charge_kept_lem = kept_is h _ placed (drawn_is n placed rows)
+    pub charge_kept_lem : kept_by h (drawn_in h rows n) ≡ charge_kept (header_view h) placed
+    charge_kept_lem = kept_is h _ placed (drawn_is n placed say)
 
-    pub charge_last : charge_by h (drawn_in h ticks amounts n) h.horizon ≡ charge (header_view h) placed h.horizon
-    charge_last = charge_is h _ placed (drawn_is n placed rows) h.horizon
+    pub charge_last : charge_by h (drawn_in h rows n) h.horizon ≡ charge (header_view h) placed h.horizon
+    charge_last = charge_is h _ placed (drawn_is n placed say) h.horizon

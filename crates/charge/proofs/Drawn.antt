@@ -1,6 +1,6 @@
 -- What is drawn in each tick: by one activity, and by the rows of the tables.
 -- Assumes nothing.
-use Prim.Native.Nat.{ℕ, zero, suc, ◌+◌, ◌*◌, ◌≤◌, ◌<◌}
+use Prim.Native.Nat.{ℕ, zero, suc, ◌+◌, ◌*◌, ◌≤◌}
 use mathlib.Core.Path.{◌≡◌, refl, ap, ◌∙◌}
 use mathlib.Core.Bool.{Bool, true, false, cond}
 use mathlib.Core.List.{List}
@@ -12,7 +12,9 @@ use borrow.Author.Tests.{ltb-true, ltb-false, le-leb, lt-leb}
 use Rattle.rules.specs.WellFormed.{HeaderFormed}
 use Rattle.activity.specs.View.{header_view}
 use Rattle.activity.specs.declared.Header.{Header as HeaderStruct}
-use Rattle.placed.specs.Bounds.{TicksBounded, AmountsBounded}
+use Rattle.placed.specs.Tables.{row_in}
+use Rattle.placed.specs.declared.row.Row.{Row}
+use Rattle.placed.specs.Bounds.{AmountsBounded}
 use Rattle.placed.specs.Raised.{Raised}
 use Rattle.placed.proofs.Raising.{cond_most}
 use Rattle.charge.specs.declared.draws.OwnDraw.{OwnDraw}
@@ -30,19 +32,15 @@ raised_own o old mid new p q t = go (ltb t o.start) refl (leb o.heat t) refl
     go false e false f = omega (arith, simp (e, f) at (p.at t), simp (le-leb o.start t (ltb-false _ _ e)) at (q.at t))
 
 -- ---- by the rows
-module _ (h : HeaderStruct) (ticks amounts : List ℕ) where
-  pub drawn_none : (t : ℕ) → drawn_in h ticks amounts 0 t ≡ 0
+module _ (h : HeaderStruct) (rows : List Row) where
+  pub drawn_none : (t : ℕ) → drawn_in h rows 0 t ≡ 0
   unfolding drawn_in
   drawn_none t = refl
 
-  -- one row's draw added to those of the first n
-  pub drawn_more : (n : ℕ) (o : OwnDraw) (old new : List ℕ) → o ≡ row_draw h ticks amounts n → ((t : ℕ) → get_or new t 0 ≡ draw_of o t + get_or old t 0) → ((t : ℕ) → get_or old t 0 ≡ drawn_in h ticks amounts n t) → (t : ℕ) → get_or new t 0 ≡ drawn_in h ticks amounts (n + 1) t
+  -- one row more
+  pub drawn_step : (n t : ℕ) → drawn_in h rows (n + 1) t ≡ draw_of (row_draw h (row_in rows n)) t + drawn_in h rows n t
   unfolding drawn_in
-  drawn_more n o old new e f g t = rw add-one (omega (arith, f t, g t, ap (λ (o : OwnDraw). draw_of o t) e))
-
-  -- what bounds give of a row
-  pub row_within : (n i : ℕ) (o : OwnDraw) → o ≡ row_draw h ticks amounts i → TicksBounded ticks n → AmountsBounded amounts n → i < n → (o.heat ≤ o.start) × (o.start ≤ o.end) × (o.end ≤ 4096) × (o.draw ≤ 1000000) × (o.heater ≡ h.heater)
-  row_within n i o e b c l = rw e (b.heats i l, b.start_end i l, b.ends i l, c.draw i l, refl)
+  drawn_step n t = rw add-one
 
   draw_most : (o : OwnDraw) (t : ℕ) → o.draw ≤ 1000000 → o.heater ≤ 1000000 → draw_of o t ≤ 1000000
   unfolding draw_of
@@ -53,13 +51,13 @@ module _ (h : HeaderStruct) (ticks amounts : List ℕ) where
       go false = cond_most (ltb t o.end) o.draw 1000000 d
 
   -- at most a million for each
-  pub drawn_few : (m n : ℕ) → AmountsBounded amounts m → h.heater ≤ 1000000 → n ≤ m → (t : ℕ) → drawn_in h ticks amounts n t ≤ n * 1000000
+  pub drawn_few : (m n : ℕ) → AmountsBounded rows m → h.heater ≤ 1000000 → n ≤ m → (t : ℕ) → drawn_in h rows n t ≤ n * 1000000
   unfolding drawn_in
   drawn_few m zero b l k t = omega arith
-  drawn_few m (suc n) b l k t = omega (arith, draw_most (row_draw h ticks amounts n) t (b.draw n (omega arith)) l, drawn_few m n b l (omega arith) t)
+  drawn_few m (suc n) b l k t = omega (arith, draw_most (row_draw h (row_in rows n)) t (b.draw n (omega arith)) l, drawn_few m n b l (omega arith) t)
 
-pub amounts_fewer : (amounts : List ℕ) (m n : ℕ) → n ≤ m → AmountsBounded amounts m → AmountsBounded amounts n
-amounts_fewer amounts m n k b =
+pub amounts_fewer : (rows : List Row) (m n : ℕ) → n ≤ m → AmountsBounded rows m → AmountsBounded rows n
+amounts_fewer rows m n k b =
     record { engines = λ i l. b.engines i (omega arith); peak = λ i l. b.peak i (omega arith); draw = λ i l. b.draw i (omega arith) }
 
 -- an array of the draws of a schedule that keeps its charge

@@ -1,13 +1,16 @@
 -- One step of the charge, in signed whole numbers and as the machine compares them.
 -- Assumes nothing.
 use Prim.Native.Nat.{ℕ, ◌+◌, ◌-◌, ◌<◌, ◌^◌}
-use mathlib.Core.Path.{◌≡◌, ap}
+use mathlib.Core.Path.{◌≡◌, refl, ap}
 use mathlib.Core.Bool.{Bool, true, false, cond}
 use native.Mathlib.Omega.{arith}
-use lib.IntN.{ℤ, pos, negsuc, ◌+ℤ◌, ◌-ℤ◌}
-use lib.Signed.{le_z, mag, ◌≤ℤ◌}
+use lib.IntN.{ℤ, pos, negsuc, ◌+ℤ◌, ◌-ℤ◌, nat_abs}
+use Rattle.std.specs.Int.{int_min}
+use Rattle.std.proofs.lemmas.Int.{ints}
+use lib.Dec.{T}
+use lib.Signed.{le_z, lt_z, mag, ◌≤ℤ◌, non_neg, yes_non_neg, pos-nat_abs, nat_abs-le}
 use mir.Syntax.{w64}
-use mir.Val.{SFits, to_z, of_z}
+use mir.Val.{Fits, SFits, to_z, of_z}
 use mir.Facts.{to_z_pos, to_z-of_z}
 use Rattle.rules.specs.MeetsB.{smaller}
 use Rattle.rules.proofs.Tests.{is_true}
@@ -31,6 +34,28 @@ smaller_yes a b e = ap (λ (t : Bool). cond t a b) e
 pub smaller_no : (a b : ℤ) → le_z a b ≡ false → smaller a b ≡ b
 unfolding smaller
 smaller_no a b e = ap (λ (t : Bool). cond t a b) e
+
+-- a number of 0 or more that was read, as the machine casts it
+pub read_natural : (z : ℤ) → mag z < 2 ^ 63 → pos 0 ≤ℤ z
+    → T (non_neg (to_z w64 (of_z w64 z))) × Fits w64 (nat_abs (to_z w64 (of_z w64 z))) × (pos (nat_abs (to_z w64 (of_z w64 z))) ≡ z)
+read_natural z h k =
+    let e : to_z w64 (of_z w64 z) ≡ z = to_z-of_z {w = w64} (record { sfits = h }) in
+    let n : T (non_neg z) = yes_non_neg {z = z} k in
+    rw e (n, omega (arith, nat_abs-le z {H = 2 ^ 63} h), pos-nat_abs z n)
+
+-- the charge before the capacity cuts it off, as the machine computes it
+pub read_next : (c : ℤ) (rate draw : ℕ) → negsuc 4611686018427387903 ≤ℤ c → c ≤ℤ pos 4611686018427387904 → rate < 2 ^ 32 → draw < 2 ^ 40
+    → to_z w64 (of_z w64 (to_z w64 (of_z w64 (to_z w64 (of_z w64 c) +ℤ to_z w64 (of_z w64 (pos rate)))) -ℤ to_z w64 draw)) ≡ c +ℤ pos rate -ℤ pos draw
+read_next c rate draw h k r d = omega (arith, ints)
+
+-- std's minimum of two is the smaller
+pub min_smaller : (a b : ℤ) → int_min a b ≡ smaller a b
+unfolding smaller
+min_smaller a b = go (lt_z b a) refl
+  where
+    go : (t : Bool) → lt_z b a ≡ t → cond t b a ≡ cond (le_z a b) a b
+    go true e = let f : le_z a b ≡ false = grind (arith, ints) in rw f
+    go false e = let f : le_z a b ≡ true = grind (arith, ints) in rw f
 
 -- a charge is at most the capacity
 pub next_most : (capacity rate draw : ℕ) (c : ℤ) → charge_next capacity rate draw c ≤ℤ pos capacity

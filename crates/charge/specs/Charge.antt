@@ -4,21 +4,22 @@ use Rattle.std.specs.Int.Signed.{le_z}
 use Rattle.rules.specs.Tests.{each}
 use Rattle.rules.specs.MeetsB.{smaller}
 use Rattle.activity.specs.declared.Header.{Header as HeaderStruct}
-use Rattle.placed.specs.Tables.{heat_at, start_at, end_at, draw_at}
+use Rattle.placed.specs.Tables.{row_in}
+use Rattle.placed.specs.declared.row.Row.{Row}
 use Rattle.charge.specs.declared.draws.OwnDraw.{OwnDraw}
 
--- the activity of row i
-abbrev pub row_draw : HeaderStruct → List ℕ → List ℕ → ℕ → OwnDraw
-row_draw h ticks amounts i = record { heat = heat_at ticks i; start = start_at ticks i; end = end_at ticks i; draw = draw_at amounts i; heater = h.heater }
+-- the activity of a row
+abbrev pub row_draw : HeaderStruct → Row → OwnDraw
+row_draw h row = record { heat = row.heat; start = row.start; end = row.end; draw = row.draw; heater = h.heater }
 
 -- what it draws at tick t
 unfoldable pub draw_of : OwnDraw → ℕ → ℕ
 draw_of o t = cond (ltb t o.start) (cond (leb o.heat t) o.heater 0) (cond (ltb t o.end) o.draw 0)
 
 -- what the first n rows draw at tick t
-unfoldable pub drawn_in : HeaderStruct → List ℕ → List ℕ → ℕ → ℕ → ℕ
-drawn_in h ticks amounts zero t = 0
-drawn_in h ticks amounts (suc n) t = draw_of (row_draw h ticks amounts n) t + drawn_in h ticks amounts n t
+unfoldable pub drawn_in : HeaderStruct → List Row → ℕ → ℕ → ℕ
+drawn_in h rows zero t = 0
+drawn_in h rows (suc n) t = draw_of (row_draw h (row_in rows n)) t + drawn_in h rows n t
 
 -- the same as an array has it
 abbrev pub at_tick : List ℕ → ℕ → ℕ

@@ -12,23 +12,18 @@ ghost use Rattle.charge.specs.Charge.{drawn_in, charge_by, kept_by};
 
 use activity::Header;
 use draws::add_placed;
-use placed::{AMOUNT_CELLS, TICK_CELLS};
+use placed::Placed;
 use rules::TICKS;
 use run::{run_through, step};
 
 // The charge at the horizon with the placed alone; it is at least the floor.
-pub fn last_charge<'a>(
-    header: Header,
-    ticks: &'a [u16; TICK_CELLS],
-    amounts: &'a [u32; AMOUNT_CELLS],
-    n: usize,
-) -> u64
-    requires ticks_bounded { TicksBounded ticks.now n × AmountsBounded amounts.now n }
-    requires header_formed { HeaderFormed (header_view header) × (kept_by header (drawn_in header ticks.now amounts.now n) ≡ true) }
-    ensures { pos result ≡ charge_by header (drawn_in header ticks.now amounts.now n) header.horizon }
+pub fn last_charge(header: Header, placed: &Placed) -> u64
+    requires ticks_bounded { TicksBounded placed.now.rows placed.now.count × AmountsBounded placed.now.rows placed.now.count }
+    requires header_formed { HeaderFormed (header_view header) × (kept_by header (drawn_in header placed.now.rows placed.now.count) ≡ true) }
+    ensures { pos result ≡ charge_by header (drawn_in header placed.now.rows placed.now.count) header.horizon }
 {
     let mut draws = [0u32; TICKS];
-    add_placed(header, ticks, amounts, n, &mut draws);
+    add_placed(header, placed, &mut draws);
     run_through(&draws, header) as u64
 }
 
@@ -36,9 +31,9 @@ pub fn last_charge<'a>(
 pub fn out_of_reach(header: Header) -> bool
     ensures { result ≡ out_of_reach (header_view header) }
 {
-    let mut c = header.first as i64;
-    for t in 0..header.horizon {
-        c = step(c, header.capacity, header.rate, 0);
+    let mut charge = i64::from(header.first);
+    for _ in 0..header.horizon {
+        charge = step(charge, header.capacity, header.rate, 0);
     }
-    c < header.handover as i64
+    charge < i64::from(header.handover)
 }

@@ -1,17 +1,8 @@
 // The charge run on from tick to tick.
 ghost use Rattle.std.specs.Prelude.{◌≡◌, ◌<◌, pos, negsuc, ◌≤ℤ◌};
-ghost use Rattle.rules.specs.MeetsB.{smaller};
 ghost use Rattle.charge.specs.Charge.{at_tick, charge_next, charge_by, Drawing};
 
 use activity::Header;
-use placed::wide;
-
-// The smaller of two charges.
-pub fn smaller(a: i64, b: i64) -> i64
-    ensures { result ≡ smaller a b }
-{
-    if a <= b { a } else { b }
-}
 
 // The charge after a tick: the smaller of the capacity and the charge with the rate added and the draws taken off.
 pub fn step(c: i64, capacity: u32, rate: u32, draw: u64) -> i64
@@ -19,7 +10,7 @@ pub fn step(c: i64, capacity: u32, rate: u32, draw: u64) -> i64
     requires draw_bound { draw < 1099511627776 }
     ensures { result ≡ charge_next capacity rate draw c }
 {
-    smaller(capacity as i64, c + rate as i64 - draw as i64)
+    i64::from(capacity).min(c + i64::from(rate) - draw as i64)
 }
 
 // The charge at the horizon with the placed alone.
@@ -27,10 +18,9 @@ pub fn run_through(draws: &[u32], header: Header) -> i64
     requires { Drawing draws.now header }
     ensures { result ≡ charge_by header (at_tick draws.now) header.horizon }
 {
-    let horizon = header.horizon as usize;
-    let mut c = header.first as i64;
-    for t in 0..horizon {
-        c = step(c, header.capacity, header.rate, wide(draws[t]));
+    let mut charge = i64::from(header.first);
+    for draw in &draws[..header.horizon as usize] {
+        charge = step(charge, header.capacity, header.rate, u64::from(*draw));
     }
-    c
+    charge
 }

@@ -1,70 +1,43 @@
 // D: the starts at which each activity in `after` is placed and has ended.
-ghost use Rattle.std.specs.Prelude.{◌≡◌, cond, ◌≤◌, min, max, eqb, leb};
-ghost use Rattle.placed.specs.Bounds.{never};
+ghost use Rattle.std.specs.Prelude.{◌≡◌, ◌≤◌, eqb, leb, length, map, filter, min};
+ghost use Rattle.std.specs.List.{reduce};
+ghost use Rattle.activity.specs.View.{number_of};
 ghost use Rattle.sets.specs.Table.{Marked, Markable};
-ghost use Rattle.direct.specs.Ended.{first_end, ready_from};
+ghost use Rattle.direct.specs.Ended.{ready_from, IsReady};
 
-use placed::{NEVER, TICK_CELLS};
-use sets::table::mark_from;
+use items::Item;
+use placed::{Placed, Row};
+use sets::table::mark_where;
 
-// The smaller of two numbers.
-fn smaller(a: u16, b: u16) -> u16
-    ensures { result ≡ min a b }
+// The earliest end of the entries of this id.
+fn first_end(entries: &[Row], id: u32) -> Option<u16>
+    ensures { result ≡ reduce min (map (λ row. row.end) (filter (λ row. eqb row.id id) entries.now)) }
 {
-    if a < b { a } else { b }
+    entries
+        .iter()
+        .filter(|row| u32::from(row.id) == id)
+        .map(|row| row.end)
+        .min()
 }
 
-// The larger of two numbers.
-fn larger(a: u16, b: u16) -> u16
-    ensures { result ≡ max a b }
-{
-    if a < b { b } else { a }
-}
-
-// The end of an activity of the id sought, `NEVER` of any other.
-fn end_if(id: u16, sought: u32, end: u16) -> u16
-    ensures { result ≡ cond (eqb id sought) end never }
-{
-    if id as u32 == sought { end } else { NEVER }
-}
-
-// The earliest end of the placed activities of this id, `NEVER` where there is none.
-fn first_end(ticks: &[u16; TICK_CELLS], n: usize, id: u32) -> u16
-    requires { n ≤ 64 }
-    ensures { result ≡ first_end ticks.now id n }
-{
-    let mut first = NEVER;
-    for i in 0..n {
-        first = smaller(end_if(ticks[i * 4], id, ticks[i * 4 + 3]), first);
-    }
-    first
-}
-
-// The first start at which each of the first `count` in `after` is placed and has ended, `NEVER` where one is not placed.
-fn ready_from<'a>(ticks: &'a [u16; TICK_CELLS], n: usize, after: &'a [u32; 8], count: usize) -> u16
-    requires { (n ≤ 64) × (count ≤ 8) }
-    ensures { result ≡ ready_from ticks.now n after.now count }
+// The first start at which each activity in `after` is placed and has ended, none where one is not placed.
+fn ready_from(placed: &Placed, after: &[Item]) -> Option<u16>
+    requires { placed.now.count ≤ 64 }
+    ensures { IsReady (ready_from placed.now.rows placed.now.count (map number_of after.now) (length after.now)) result }
 {
     let mut ready = 0;
-    for i in 0..count {
-        ready = larger(first_end(ticks, n, after[i]), ready);
+    for id in after {
+        ready = first_end(placed.entries(), id.first)?.max(ready);
     }
-    ready
+    Some(ready)
 }
 
 // Marks the starts that meet D.
-pub fn mark_after<'a>(
-    ticks: &'a [u16; TICK_CELLS],
-    n: usize,
-    after: &'a [u32; 8],
-    after_count: usize,
-    count: u32,
-    by: u16,
-    table: &mut [u16],
-)
-    requires { (n ≤ 64) × (after_count ≤ 8) × Markable by count table.old }
-    ensures { Marked (leb (ready_from ticks.now n after.now after_count)) by count table.old table.new }
+pub fn mark_after(placed: &Placed, after: &[Item], count: u32, by: u16, table: &mut [u16])
+    requires { (placed.now.count ≤ 64) × Markable by count table.old }
+    ensures { Marked (leb (ready_from placed.now.rows placed.now.count (map number_of after.now) (length after.now))) by count table.old table.new }
 {
-    let ready = ready_from(ticks, n, after, after_count);
-    mark_from(ready as u32, count, by, table);
+    if let Some(ready) = ready_from(placed, after) {
+        mark_where(|s| u32::from(ready) <= s, count, by, table);
+    }
 }

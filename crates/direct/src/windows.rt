@@ -1,42 +1,33 @@
 // W: the starts in a window.
-ghost use Rattle.std.specs.Prelude.{◌≡◌, ◌≤◌, length, take};
+ghost use Rattle.std.specs.Prelude.{◌≡◌, ◌&&◌, leb, map};
+ghost use Rattle.std.specs.List.{list_any};
 ghost use Rattle.rules.specs.MeetsW.{allowed};
-ghost use Rattle.activity.specs.View.{windows_view};
+ghost use Rattle.activity.specs.View.{window_of};
 ghost use Rattle.sets.specs.Table.{Marked, Markable};
 
-use sets::table::raise;
+use items::Item;
+use sets::table::mark_where;
 
-// Whether the start s is in one of the first n windows, or n is 0.
-fn in_window<'a>(from: &'a [u32; 4], to: &'a [u32; 4], n: usize, s: u32) -> bool
-    requires { (n ≤ 4) × (length from.now ≡ 4) × (length to.now ≡ 4) }
-    ensures { result ≡ allowed (take n (windows_view from.now to.now)) s }
+// Whether the start s is in one of the windows.
+fn in_window(windows: &[Item], s: u32) -> bool
+    ensures { result ≡ list_any (λ window. leb window.first s && leb s window.second) windows.now }
 {
-    if n == 0 {
-        return true;
-    }
-    for i in 0..n {
-        if from[i] <= s {
-            if s <= to[i] {
-                return true;
-            }
-        }
-    }
-    false
+    windows
+        .iter()
+        .any(|window| window.first <= s && s <= window.second)
 }
 
-// Marks the starts that meet W, of the first n windows.
-pub fn mark_windows<'a>(
-    from: &'a [u32; 4],
-    to: &'a [u32; 4],
-    n: usize,
-    count: u32,
-    by: u16,
-    table: &mut [u16],
-)
-    requires { (n ≤ 4) × (length from.now ≡ 4) × (length to.now ≡ 4) × Markable by count table.old }
-    ensures { Marked (allowed (take n (windows_view from.now to.now))) by count table.old table.new }
+// The same, or there is no window.
+fn is_allowed(windows: &[Item], s: u32) -> bool
+    ensures { result ≡ allowed (map window_of windows.now) s }
 {
-    for s in 0..count {
-        raise(s, in_window(from, to, n, s), by, table);
-    }
+    windows.is_empty() || in_window(windows, s)
+}
+
+// Marks the starts that meet W.
+pub fn mark_windows(windows: &[Item], count: u32, by: u16, table: &mut [u16])
+    requires { Markable by count table.old }
+    ensures { Marked (allowed (map window_of windows.now)) by count table.old table.new }
+{
+    mark_where(|s| is_allowed(windows, s), count, by, table);
 }

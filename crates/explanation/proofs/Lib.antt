@@ -1,6 +1,0 @@
-pub mod RunTexts
-pub mod LetterTexts
-pub mod Answered
-pub mod PlaceTexts
-pub mod Explaining
-pub mod Left

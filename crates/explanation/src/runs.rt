@@ -1,62 +1,55 @@
 // The runs of starts that meet a set of conditions.
-ghost use Rattle.std.specs.Prelude.{◌≤◌};
+ghost use Rattle.std.specs.Prelude.{◌≡◌, ◌≤◌, length};
 ghost use Rattle.explanation.specs.Places.{run_text, run_texts, runs_text, runs_line};
 ghost use Rattle.explanation.specs.Tabled.{runs_in};
-ghost use Rattle.wording.specs.Writing.{Wrote};
+ghost use Rattle.wording.specs.Writing.{with_more};
 
-use rules::TICKS;
-use schedule::runs::next_start;
-use wording::writing::{Cursor, put_byte, put_word, put_word_number};
+use rules::Interval;
+use schedule::runs::{Runs, count_runs};
+use wording::writing::Part;
 
 // Writes a run of starts.
-fn put_run(out: &mut [u8], c: Cursor, first: u32, last: u32) -> Cursor
-    ensures { Wrote (run_text (record { first = first; last = last })) c out.old result out.new }
+#[tactic(auto, using(std::proofs::lemmas::Grind::common_steps, wording::proofs::Pieces::more_then), unfolding(crate::specs::Places::run_text))]
+fn put_run(out: &mut Part, run: Interval)
+    ensures { out.new ≡ with_more out.old (run_text run) }
 {
-    let at = put_word_number(out, c, b" ", first as u64);
-    put_word_number(out, at, b"-", last as u64)
+    out.push(b" ");
+    out.push_number(u64::from(run.first));
+    out.push(b"-");
+    out.push_number(u64::from(run.last));
 }
 
-// Writes the runs of starts that meet the set, of the first `count` starts of the table.
-fn put_each_run(out: &mut [u8], c: Cursor, table: &[u16; TICKS], count: u32, set: u16) -> Cursor
-    requires { count ≤ 4096 }
-    ensures { Wrote (run_texts (runs_in table.now count set)) c out.old result out.new }
+// Writes the runs of starts that meet the set.
+#[tactic(auto, using(std::proofs::lemmas::Grind::common_steps, wording::proofs::Pieces::more_then, wording::proofs::Pieces::more_none), unfolding(crate::specs::Places::run_texts))]
+fn put_each_run(out: &mut Part, sets: &[u16], set: u16)
+    requires { length sets.now ≤ 4096 }
+    ensures { out.new ≡ with_more out.old (run_texts (runs_in sets.now set)) }
 {
-    let mut next = c;
-    let mut s = 0;
-    loop {
-        let first = next_start(table, s, count, set, true);
-        if first == count {
-            return next;
-        }
-        s = next_start(table, first, count, set, false);
-        next = put_run(out, next, first, s - 1);
+    for run in Runs::new(sets, set) {
+        put_run(out, run);
     }
 }
 
 // Writes the runs of starts that meet the set, or that there is none.
-fn put_runs(out: &mut [u8], c: Cursor, table: &[u16; TICKS], count: u32, set: u16) -> Cursor
-    requires { count ≤ 4096 }
-    ensures { Wrote (runs_text (runs_in table.now count set)) c out.old result out.new }
+#[tactic(auto, unfolding(crate::specs::Places::runs_text))]
+fn put_runs(out: &mut Part, sets: &[u16], set: u16)
+    requires { length sets.now ≤ 4096 }
+    ensures { out.new ≡ with_more out.old (runs_text (runs_in sets.now set)) }
 {
-    if next_start(table, 0, count, set, true) == count {
-        return put_word(out, c, b" none");
+    if count_runs(sets, set) == 0 {
+        out.push(b" none");
+    } else {
+        put_each_run(out, sets, set);
     }
-    put_each_run(out, c, table, count, set)
 }
 
 // Writes a line of the runs of starts that meet the set, behind these words.
-pub fn put_runs_line<'a>(
-    out: &mut [u8],
-    c: Cursor,
-    words: &'a [u8],
-    table: &'a [u16; TICKS],
-    count: u32,
-    set: u16,
-) -> Cursor
-    requires { count ≤ 4096 }
-    ensures { Wrote (runs_line words.now (runs_in table.now count set)) c out.old result out.new }
+#[tactic(auto, using(std::proofs::lemmas::Grind::common_steps, wording::proofs::Pieces::more_then), unfolding(crate::specs::Places::runs_line))]
+pub fn put_runs_line(out: &mut Part, words: &[u8], sets: &[u16], set: u16)
+    requires { length sets.now ≤ 4096 }
+    ensures { out.new ≡ with_more out.old (runs_line words.now (runs_in sets.now set)) }
 {
-    let mut at = put_word(out, c, words);
-    at = put_runs(out, at, table, count, set);
-    put_byte(out, at, b'\n')
+    out.push(words);
+    put_runs(out, sets, set);
+    out.push(b"\n");
 }

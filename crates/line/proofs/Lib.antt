@@ -1,3 +1,2 @@
-pub mod Unless
 pub mod Lists
-pub mod FieldsFrom
+pub mod Steps

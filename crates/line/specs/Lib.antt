@@ -1,3 +1,2 @@
 pub mod Formed
-pub mod FieldsFrom
-pub mod Cursor
+pub mod Forms

@@ -18,6 +18,7 @@ use Rattle.rules.specs.WellFormed.{ActivityFormed}
 use Rattle.rules.proofs.Tests.{each_at, each_all, ever_at, and_left, and_right, and_both, both_ways, every_mem, not_ever}
 use Rattle.rules.proofs.Every.{every_all}
 use Rattle.rules.proofs.Local.{bool_ext, holds_of, holds_from, holds_till, load_kept_more, load_kept_own}
+use Rattle.placed.specs.declared.row.Row.{Row}
 use Rattle.placed.specs.Tables.{engines_at, peak_at}
 use Rattle.placed.specs.Held.{TicksAt, AmountsAt, UnitsAt, Rows, Reached}
 use Rattle.placed.proofs.Rows.{rows_map}
@@ -27,16 +28,16 @@ use Rattle.load.proofs.Loading.{clear_same}
 use Rattle.load.proofs.Units.{share_unit_is}
 
 -- the rows' weights are a quantity of the placed
-abbrev Weighing : Header → List ℕ → (ℕ → ℕ) → (Activity → ℕ) → ℕ → Entry → Type 0
-Weighing h ticks weights quantity i e = TicksAt h ticks i e × (weights i ≡ quantity e.activity)
+abbrev Weighing : Header → List Row → (ℕ → ℕ) → (Activity → ℕ) → ℕ → Entry → Type 0
+Weighing h rows weights quantity i e = TicksAt h rows i e × (weights i ≡ quantity e.activity)
 
 -- the load of the rows is that of the schedule
-load_is : (h : Header) (ticks : List ℕ) (weights : ℕ → ℕ) (quantity : Activity → ℕ) (n : ℕ) (placed : Schedule) (t : ℕ) → Rows (Weighing h ticks weights quantity) n placed → load_in ticks weights n t ≡ load quantity placed t
+load_is : (h : Header) (rows : List Row) (weights : ℕ → ℕ) (quantity : Activity → ℕ) (n : ℕ) (placed : Schedule) (t : ℕ) → Rows (Weighing h rows weights quantity) n placed → load_in rows weights n t ≡ load quantity placed t
 unfolding Rows load_in load total holds
-load_is h ticks weights quantity zero (e ∷ placed) t r = elim r [ ]
-load_is h ticks weights quantity (suc n) [] t r = elim r [ ]
-load_is h ticks weights quantity zero [] t r = refl
-load_is h ticks weights quantity (suc n) (e ∷ placed) t r = rw (r.0.0.start, r.0.0.ends, r.0.1, load_is h ticks weights quantity n placed t r.1)
+load_is h rows weights quantity zero (e ∷ placed) t r = elim r [ ]
+load_is h rows weights quantity (suc n) [] t r = elim r [ ]
+load_is h rows weights quantity zero [] t r = refl
+load_is h rows weights quantity (suc n) (e ∷ placed) t r = rw (r.0.0.start, r.0.0.ends, r.0.1, load_is h rows weights quantity n placed t r.1)
 
 -- E and P: beside a schedule that keeps the limit, over any quantity
 module _ (quantity : Activity → ℕ) (limit : ℕ) (h : Header) (placed : Schedule) (a : Activity) where
@@ -46,20 +47,20 @@ module _ (quantity : Activity → ℕ) (limit : ℕ) (h : Header) (placed : Sche
       (λ e. load_kept_more quantity limit h placed a s q (λ i k. leb-true _ _ (each_at (λ i. leb (quantity a + load quantity placed (s + i)) limit) a.duration i e k)))
       (λ e. each_all _ a.duration (λ i k. le-leb _ _ (load_kept_own quantity limit h placed a s l e i k)))
 
-  pub load_meets : (ticks : List ℕ) (weights : ℕ → ℕ) (n : ℕ) → Rows (Weighing h ticks weights quantity) n placed → weights n ≡ quantity a → load_kept quantity limit h placed ≡ true → (s : ℕ) → s + a.duration ≤ h.horizon → clear_for (fits (load_in ticks weights n) (weights n) limit) a.duration s ≡ load_kept quantity limit h (at a s ∷ placed)
-  load_meets ticks weights n r w q s l =
-      clear_same _ _ (weights n) limit a.duration s (λ t. load_is h ticks weights quantity n placed t r)
+  pub load_meets : (rows : List Row) (weights : ℕ → ℕ) (n : ℕ) → Rows (Weighing h rows weights quantity) n placed → weights n ≡ quantity a → load_kept quantity limit h placed ≡ true → (s : ℕ) → s + a.duration ≤ h.horizon → clear_for (fits (load_in rows weights n) (weights n) limit) a.duration s ≡ load_kept quantity limit h (at a s ∷ placed)
+  load_meets rows weights n r w q s l =
+      clear_same _ _ (weights n) limit a.duration s (λ t. load_is h rows weights quantity n placed t r)
       ∙ ap (λ (x : ℕ). clear_for (fits (load quantity placed) x limit) a.duration s) w
       ∙ kept_is s q l
 
-module _ (h : Header) (ticks amounts : List ℕ) (n : ℕ) (placed : Schedule) (a : Activity) (rows : Rows (λ i e. TicksAt h ticks i e × AmountsAt amounts i e.activity) n placed) (candidate : AmountsAt amounts n a) (reached : Reached h placed) (formed : ActivityFormed h a) where
-  pub engines_meet : (s : ℕ) → s + a.duration ≤ h.horizon → clear_for (fits (load_in ticks (engines_at amounts) n) (engines_at amounts n) h.engines) a.duration s ≡ meets_e h placed a s
+module _ (h : Header) (rows : List Row) (n : ℕ) (placed : Schedule) (a : Activity) (held : Rows (λ i e. TicksAt h rows i e × AmountsAt rows i e.activity) n placed) (candidate : AmountsAt rows n a) (reached : Reached h placed) (formed : ActivityFormed h a) where
+  pub engines_meet : (s : ℕ) → s + a.duration ≤ h.horizon → clear_for (fits (load_in rows (engines_at rows) n) (engines_at rows n) h.engines) a.duration s ≡ meets_e h placed a s
   unfolding meets_e engines_kept
-  engines_meet = load_meets (λ x. x.engines) h.engines h placed a ticks (engines_at amounts) n (rows_map _ _ n placed (λ i e k m p. (p.0, p.1.engines)) rows) candidate.engines reached.kept.engines
+  engines_meet = load_meets (λ x. x.engines) h.engines h placed a rows (engines_at rows) n (rows_map _ _ n placed (λ i e k m p. (p.0, p.1.engines)) held) candidate.engines reached.kept.engines
 
-  pub peaks_meet : (s : ℕ) → s + a.duration ≤ h.horizon → clear_for (fits (load_in ticks (peak_at amounts) n) (peak_at amounts n) h.peak) a.duration s ≡ meets_p h placed a s
+  pub peaks_meet : (s : ℕ) → s + a.duration ≤ h.horizon → clear_for (fits (load_in rows (peak_at rows) n) (peak_at rows n) h.peak) a.duration s ≡ meets_p h placed a s
   unfolding meets_p peaks_kept
-  peaks_meet = load_meets (λ x. x.peak) h.peak h placed a ticks (peak_at amounts) n (rows_map _ _ n placed (λ i e k m p. (p.0, p.1.peak)) rows) candidate.peak reached.kept.peaks
+  peaks_meet = load_meets (λ x. x.peak) h.peak h placed a rows (peak_at rows) n (rows_map _ _ n placed (λ i e k m p. (p.0, p.1.peak)) held) candidate.peak reached.kept.peaks
 
 -- U: no tick of the candidate is held by one that shares a unit
 module _ (quantity : Activity → ℕ) (t : ℕ) where
@@ -114,9 +115,9 @@ module _ (h : Header) (placed : Schedule) (a : Activity) (s : ℕ) (l : s + a.du
       subst (λ (u : ℕ). load (shares a) placed u ≤ 0) z (omega (arith, leb-true (0 + load (shares a) placed (s + (t - s))) 0 (each_at (λ i. leb (0 + load (shares a) placed (s + i)) 0) a.duration (t - s) e (omega arith)))))))
       (λ e. each_all (λ i. leb (0 + load (shares a) placed (s + i)) 0) a.duration (λ i k. le-leb (0 + load (shares a) placed (s + i)) 0 (omega (arith, load_zero (shares a) (s + i) placed (λ x m. share_none (s + i) (omega arith) (omega arith) x (every_mem (λ y. not (clash h (at a s) y)) placed e m))))))
 
-module _ (h : Header) (ticks units : List ℕ) (n : ℕ) (placed : Schedule) (a : Activity) (rows : Rows (λ i e. TicksAt h ticks i e × UnitsAt units i e.activity) n placed) (candidate : UnitsAt units n a) (reached : Reached h placed) (formed : ActivityFormed h a) where
-  pub units_meet : (s : ℕ) → s + a.duration ≤ h.horizon → clear_for (fits (load_in ticks (sharing units n) n) 0 0) a.duration s ≡ meets_u h placed a s
+module _ (h : Header) (rows : List Row) (n : ℕ) (placed : Schedule) (a : Activity) (held : Rows (λ i e. TicksAt h rows i e × UnitsAt rows i e.activity) n placed) (candidate : UnitsAt rows n a) (reached : Reached h placed) (formed : ActivityFormed h a) where
+  pub units_meet : (s : ℕ) → s + a.duration ≤ h.horizon → clear_for (fits (load_in rows (sharing rows n) n) 0 0) a.duration s ≡ meets_u h placed a s
   unfolding sharing share
   units_meet s l =
-      clear_same _ _ 0 0 a.duration s (λ t. load_is h ticks (sharing units n) (shares a) n placed t (rows_map _ _ n placed (λ i e k m p. (p.0, ap (λ (b : Bool). cond b 1 0) (share_unit_is units i n a e.activity p.1 candidate (λ u m. formed.units.in_range u m)))) rows))
+      clear_same _ _ 0 0 a.duration s (λ t. load_is h rows (sharing rows n) (shares a) n placed t (rows_map _ _ n placed (λ i e k m p. (p.0, ap (λ (b : Bool). cond b 1 0) (share_unit_is rows i n a e.activity p.1 candidate (λ u m. formed.units.in_range u m)))) held))
       ∙ shares_none h placed a s l

@@ -1,39 +1,40 @@
 -- The load of each tick: what the rows that hold it weigh together.
-use Rattle.std.specs.Prelude.{ℕ, zero, suc, ◌+◌, ◌*◌, ◌<◌, ◌≤◌, ◌≡◌, Bool, cond, ◌&&◌, List, leb, ltb, eqb, length, get_or}
+use Rattle.std.specs.Prelude.{ℕ, zero, suc, ◌+◌, ◌<◌, ◌≤◌, ◌≡◌, Bool, false, cond, ◌&&◌, List, leb, ltb, length, get_or}
+use Rattle.std.specs.Borrow.{Bor}
 use Rattle.rules.specs.Tests.{ever}
-use Rattle.placed.specs.Tables.{start_at, end_at, unit_at}
+use Rattle.placed.specs.declared.row.Row.{Row}
+use Rattle.placed.specs.Tables.{row_in, start_at, end_at}
 
 -- the sum over the first n rows that hold tick t
-unfoldable pub load_in : List ℕ → (ℕ → ℕ) → ℕ → ℕ → ℕ
-load_in ticks weights zero t = 0
-load_in ticks weights (suc n) t = cond (leb (start_at ticks n) t && ltb t (end_at ticks n)) (weights n) 0 + load_in ticks weights n t
+unfoldable pub load_in : List Row → (ℕ → ℕ) → ℕ → ℕ → ℕ
+load_in rows weights zero t = 0
+load_in rows weights (suc n) t = cond (leb (start_at rows n) t && ltb t (end_at rows n)) (weights n) 0 + load_in rows weights n t
 
--- column c of the amounts: 0 the engines, 1 the peak
-abbrev pub amount_at : List ℕ → ℕ → ℕ → ℕ
-amount_at amounts c i = get_or amounts (i * 4 + c) 0
+-- two rows have a unit in common
+unfoldable pub share_units : Row → Row → Bool
+share_units a b = ever (λ u. get_or a.units u false && get_or b.units u false) 32
 
--- rows i and j have a unit in common
-unfoldable pub share_unit : List ℕ → ℕ → ℕ → Bool
-share_unit units i j = ever (λ u. eqb (unit_at units i u) 1 && eqb (unit_at units j u) 1) 32
+-- rows i and j have
+abbrev pub share_unit : List Row → ℕ → ℕ → Bool
+share_unit rows i j = share_units (row_in rows i) (row_in rows j)
 
 -- 1 where row i shares a unit with row n
-unfoldable pub sharing : List ℕ → ℕ → ℕ → ℕ
-sharing units n i = cond (share_unit units i n) 1 0
+unfoldable pub sharing : List Row → ℕ → ℕ → ℕ
+sharing rows n i = cond (share_unit rows i n) 1 0
 
 -- number i of a column
 abbrev pub number_at : List ℕ → ℕ → ℕ
 number_at column i = get_or column i 0
 
--- the weights of the first n rows stand in the column
-pub record Weighed (weights : ℕ → ℕ) (n : ℕ) (column : List ℕ) : Type 0 where
-  pub size : length column ≡ 64
-  pub at : (i : ℕ) → i < n → number_at column i ≡ weights i
+-- the first n rows are weighed by what `gives` says of a row and its weight
+abbrev pub Weighs : (Bor Row → ℕ → Type 0) → List Row → ℕ → (ℕ → ℕ) → Type 0
+Weighs gives rows n weights = (i : ℕ) (row : Bor Row) (w : ℕ) → i < n → row.now ≡ row_in rows i → gives row w → w ≡ weights i
 
--- they are at most a million each
-abbrev pub WeightsBounded : (ℕ → ℕ) → ℕ → Type 0
-WeightsBounded weights n = (i : ℕ) → i < n → weights i ≤ 1000000
+-- at most a million each
+abbrev pub WeighsLittle : (Bor Row → ℕ → Type 0) → List Row → ℕ → Type 0
+WeighsLittle gives rows n = (i : ℕ) (row : Bor Row) (w : ℕ) → i < n → row.now ≡ row_in rows i → gives row w → w ≤ 1000000
 
 -- each tick's load
-pub record Loaded (ticks : List ℕ) (weights : ℕ → ℕ) (n : ℕ) (loads : List ℕ) : Type 0 where
+pub record Loaded (rows : List Row) (weights : ℕ → ℕ) (n : ℕ) (loads : List ℕ) : Type 0 where
   pub size : length loads ≡ 4096
-  pub sum : (t : ℕ) → get_or loads t 0 ≡ load_in ticks weights n t
+  pub sum : (t : ℕ) → get_or loads t 0 ≡ load_in rows weights n t

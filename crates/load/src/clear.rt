@@ -11,7 +11,7 @@ fn clear_since(load: u32, weight: u32, limit: u32, t: u32, since: u32) -> u32
     requires { t < 4096 }
     ensures { result ≡ cond (leb (weight + load) limit) since (t + 1) }
 {
-    if (weight as u64) + (load as u64) <= (limit as u64) {
+    if u64::from(weight) + u64::from(load) <= u64::from(limit) {
         since
     } else {
         t + 1
@@ -19,14 +19,13 @@ fn clear_since(load: u32, weight: u32, limit: u32, t: u32, since: u32) -> u32
 }
 
 // The tick from which the weight fits in all before `to`.
-fn clear_before(loads: &[u32], to: u32, weight: u32, limit: u32) -> u32
+fn clear_before(loads: &[u32], to: usize, weight: u32, limit: u32) -> u32
     requires { (to ≤ length loads.now) × (to ≤ 4096) }
     ensures { result ≡ clear_since (fits (number_at loads.now) weight limit) to }
 {
     let mut since = 0;
-    for t in 0..to {
-        let at = t as usize;
-        since = clear_since(loads[at], weight, limit, t, since);
+    for (t, load) in loads[..to].iter().enumerate() {
+        since = clear_since(*load, weight, limit, t as u32, since);
     }
     since
 }
@@ -46,11 +45,10 @@ pub fn mark_clear(
     ensures { Marked (clear_for (fits (number_at loads.now) weight limit) duration) by count table.old table.new }
 {
     let last = duration - 1;
-    let mut since = clear_before(loads, last, weight, limit);
+    let mut since = clear_before(loads, last as usize, weight, limit);
     for s in 0..count {
         let t = s + last;
-        let at = t as usize;
-        since = clear_since(loads[at], weight, limit, t, since);
+        since = clear_since(loads[t as usize], weight, limit, t, since);
         raise(s, since <= s, by, table);
     }
 }

@@ -1,26 +1,20 @@
 // The load of the placed in each tick.
 ghost use Rattle.std.specs.Prelude.{◌≡◌, ℕ, length, get_or};
 ghost use Rattle.placed.specs.Bounds.{TicksBounded};
-ghost use Rattle.load.specs.Loads.{number_at, WeightsBounded, Loaded};
+ghost use Rattle.load.specs.Loads.{Weighs, WeighsLittle, Loaded};
 
-use placed::{TICK_CELLS, raise_ticks};
-use rules::PLACES;
+use placed::{Placed, Row, raise_ticks};
 
-// Sets the load of each tick, from 0, to the sum of the weights of the first n rows that hold it.
-pub fn fill_loads<'a>(
-    ticks: &'a [u16; TICK_CELLS],
-    weights: &'a [u32; PLACES],
-    n: usize,
-    loads: &mut [u32],
-)
-    requires ticks_bounded { TicksBounded ticks.now n × WeightsBounded (number_at weights.now) n }
+// Sets the load of each tick, from 0, to the sum of the weights of the placed that hold it.
+pub fn fill_loads<W: Fn(&Row) -> u32>(placed: &Placed, weigh: W, loads: &mut [u32])
+    requires callable { W.IsAlwaysCallable weigh }
+    requires weighs { WeighsLittle (W.post weigh) placed.now.rows placed.now.count }
+    requires ticks_bounded { TicksBounded placed.now.rows placed.now.count }
     requires loads_len { (length loads.old ≡ 4096) × ((t : ℕ) → get_or loads.old t 0 ≡ 0) }
-    ensures { Loaded ticks.now (number_at weights.now) n loads.new }
+    ensures { (weights : ℕ → ℕ) → Weighs (W.post weigh) placed.now.rows placed.now.count weights → Loaded placed.now.rows weights placed.now.count loads.new }
 {
-    for i in 0..n {
-        let at = i * 4;
-        let from = ticks[at + 2];
-        let to = ticks[at + 3];
-        raise_ticks(loads, from as usize, to as usize, weights[i]);
+    for row in placed.entries() {
+        let weight = weigh(row);
+        raise_ticks(loads, usize::from(row.start), usize::from(row.end), weight);
     }
 }

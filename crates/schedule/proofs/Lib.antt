@@ -1,9 +1,9 @@
 pub mod Nearer
 pub mod RunSteps
-pub mod Columns
 pub mod Turns
 pub mod Common
 pub mod Agree
 pub mod Reply
 pub mod Tabled
 pub mod NextRuns
+pub mod Columns

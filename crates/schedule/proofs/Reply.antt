@@ -8,15 +8,12 @@ use lib.Dec.{eqb}
 use lib.ListN.{get_or}
 use borrow.Author.Tests.{eq-eqb, eqb-true}
 use Rattle.rules.specs.Conditions.{condition_count, all_conditions, has, meets_set}
-use Rattle.rules.specs.Answer.{nearest, letters, valid, answered, answer}
-use Rattle.rules.specs.declared.Outcome.TheVariants.{Placed, Refused}
+use Rattle.rules.specs.Answer.{nearest, valid}
 use Rattle.rules.proofs.Local.{bool_ext}
 use Rattle.rules.proofs.Sets.{all_of_them, by_letters, meets_at, meets_all}
-use Rattle.schedule.specs.Found.{option_of, is_valid, to_preferred}
+use Rattle.schedule.specs.Found.{is_valid, to_preferred}
 use Rattle.schedule.specs.Search.{test_in}
 use Rattle.sets.specs.Sets.{holds_set}
-use Rattle.schedule.specs.declared.nearest.Found.{Found}
-use Rattle.schedule.specs.declared.nearest.Found.TheVariants.{At, Nothing}
 use Rattle.schedule.proofs.Common.{contains_meets}
 use Rattle.schedule.proofs.Nearer.{nearest_same}
 
@@ -28,15 +25,8 @@ full_is e h =
     (λ q. meets_all (λ c s. has e c) all_conditions 0 (λ c k f. rw (eqb-true e all_conditions q) f))
     (λ q. eq-eqb e all_conditions (by_letters condition_count e all_conditions (omega arith) (omega arith) (λ c k. meets_at (λ c s. has e c) all_conditions 0 c q k (all_of_them c k) ∙ sym (all_of_them c k))))
 
-module _ (table : List ℕ) (n preferred : ℕ) (small : (s : ℕ) → get_or table s 0 ≤ all_conditions) (found : Found) (e : option_of found ≡ nearest (is_valid table) (to_preferred preferred) n) where
-  nearest_valid : nearest (is_valid table) (to_preferred preferred) n ≡ nearest (valid (test_in table) n) (to_preferred preferred) n
-  unfolding is_valid valid
-  nearest_valid = nearest_same _ _ (to_preferred preferred) n (λ s h. full_is (get_or table s 0) (small s) ∙ contains_meets table all_conditions s)
-
-  pub placed : (s : ℕ) → found ≡ At s → Placed s ≡ answer (test_in table) n (to_preferred preferred)
-  unfolding answer answered
-  placed s f = rw (← nearest_valid, ← e, f)
-
-  pub refused : (m : ℕ) → m ≡ letters (test_in table) n → found ≡ Nothing → Refused m ≡ answer (test_in table) n (to_preferred preferred)
-  unfolding answer answered
-  refused m l f = rw (← nearest_valid, ← e, f, l)
+-- the valid start nearest to the preferred tick
+pub nearest_valid : (sets : List ℕ) (n preferred : ℕ) → ((s : ℕ) → get_or sets s 0 ≤ all_conditions) → nearest (is_valid sets) (to_preferred preferred) n ≡ nearest (valid (test_in sets) n) (to_preferred preferred) n
+unfolding is_valid valid
+nearest_valid sets n preferred small =
+    nearest_same _ _ (to_preferred preferred) n (λ s h. full_is (get_or sets s 0) (small s) ∙ contains_meets sets all_conditions s)

@@ -1,45 +1,42 @@
 // The letters of a refusal: the conditions kept when each is gone through in turn.
 ghost use Rattle.std.specs.Prelude.{◌≡◌, cond, ◌-◌, ◌^◌, ◌≤◌, ◌<◌, length};
+ghost use Rattle.std.specs.List.{list_any};
 ghost use Rattle.rules.specs.Conditions.{condition_count};
 ghost use Rattle.rules.specs.Answer.{common, letters};
+ghost use Rattle.sets.specs.Sets.{holds_set};
 ghost use Rattle.schedule.specs.Search.{test_in};
 
 use rules::{ALL_CONDITIONS, CONDITIONS};
+use sets::{bit, contains};
 
 // Whether the conditions of the set have a start in common.
-fn common_in(table: &[u16], count: u32, set: u16) -> bool
-    requires { count ≤ length table.now }
-    ensures { result ≡ common (test_in table.now) count set }
+fn common_in(sets: &[u16], set: u16) -> bool
+    ensures { result ≡ list_any (λ met. holds_set met set) sets.now }
 {
-    for s in 0..count {
-        let at = s as usize;
-        if sets::contains(table[at], set) {
-            return true;
-        }
-    }
-    false
+    sets.iter().any(|met| contains(*met, set))
 }
 
 // The set with the condition c, or without it where the others have no start in common.
-fn keep_or_drop(table: &[u16], count: u32, set: u16, c: u32) -> u16
-    requires { (count ≤ length table.now) × (c < condition_count) × (2 ^ c ≤ set) }
-    ensures { result ≡ cond (common (test_in table.now) count (set - 2 ^ c)) set (set - 2 ^ c) }
+#[tactic(auto, using(sets::proofs::Bits::bit_is, crate::proofs::Common::any_common))]
+fn keep_or_drop(sets: &[u16], set: u16, c: u32) -> u16
+    requires { (c < condition_count) × (2 ^ c ≤ set) }
+    ensures { result ≡ cond (common (test_in sets.now) (length sets.now) (set - 2 ^ c)) set (set - 2 ^ c) }
 {
-    let without = set - sets::bit(c);
-    if common_in(table, count, without) {
-        return set;
+    let without = set - bit(c);
+    if common_in(sets, without) {
+        set
+    } else {
+        without
     }
-    without
 }
 
 // The letters of a refusal, as a set.
-pub fn letters_of(table: &[u16], count: u32) -> u16
-    requires { count ≤ length table.now }
-    ensures { result ≡ letters (test_in table.now) count }
+pub fn letters_of(sets: &[u16]) -> u16
+    ensures { result ≡ letters (test_in sets.now) (length sets.now) }
 {
     let mut set = ALL_CONDITIONS;
     for c in 0..CONDITIONS {
-        set = keep_or_drop(table, count, set, c);
+        set = keep_or_drop(sets, set, c);
     }
     set
 }

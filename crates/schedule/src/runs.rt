@@ -1,96 +1,109 @@
-// The runs of starts that meet a set of conditions, counted and written from the last start to the first; and the next
-// start from a given one on.
-ghost use Rattle.std.specs.Prelude.{◌≡◌, true, cond, not, ◌&&◌, map, ◌-◌, ◌≤◌, ◌<◌, length, set};
+// The runs of starts that meet a set of conditions, from the first to the last.
+ghost use Rattle.std.specs.Prelude.{◌≡◌, map, ◌^◌, ◌≤◌, ◌<◌, length, position};
+ghost use Rattle.std.specs.List.{prefix_len};
+ghost use Rattle.std.specs.Iterator.{YieldsFirst, item_count};
 ghost use Rattle.rules.specs.Runs.{runs_from};
 ghost use Rattle.rules.specs.Calls.{slice_after};
-ghost use Rattle.schedule.specs.Search.{Next, meets_in, writes, column};
+ghost use Rattle.sets.specs.Sets.{holds_set};
+ghost use Rattle.schedule.specs.Search.{NextRun, meets_in};
 
-// The first start from `from` on, of the first `count`, that meets the set if `met`, or that does not meet it otherwise;
-// `count` where there is none.
-pub fn next_start(table: &[u16], from: u32, count: u32, set: u16, met: bool) -> u32
-    requires { (from ≤ count) × (count ≤ length table.now) }
-    ensures { Next (meets_in table.now set) met from count result }
-{
-    let mut s = from;
-    while s < count {
-        let at = s as usize;
-        if sets::contains(table[at], set) == met {
-            return s;
-        }
-        s += 1;
-    }
-    s
+use rules::Interval;
+use sets::contains;
+use std::marker::Model;
+
+// The runs of starts, from the start `from` on, that meet a set.
+#[derive(Drop)]
+pub struct Runs<'a> {
+    sets: &'a [u16],
+    set: u16,
+    from: u32,
 }
 
-// 1 where a run ends at this start: it passes and the next start does not.
-fn ends_run(passes: bool, next: bool) -> usize
-    ensures { (result ≡ cond (passes && not next) 1 0) × (result ≤ 1) }
-{
-    if passes {
-        if next {
-            return 0;
-        }
-        return 1;
-    }
-    0
+// A clause sees the list of the runs that are left.
+impl<'a> Model for Runs<'a> {
+    ghost use Rattle.std.specs.Prelude.{List, ◌^◌, ◌≤◌, ◌<◌, length};
+    ghost use Rattle.rules.specs.declared.Interval.{Interval};
+    ghost use Rattle.schedule.specs.Search.{meets_in, runs_on};
+
+    ghost Value = { List Interval };
+
+    ghost view = { λ a. runs_on (meets_in a.sets.now a.set) (length a.sets.now) a.from };
+
+    ghost invariant = { λ a. (a.from ≤ length a.sets.now) × (length a.sets.now < 2 ^ 32) };
 }
 
-// How many runs of starts meet the set, of the first `count` starts of the table.
-pub fn count_runs(table: &[u16], count: u32, set: u16) -> usize
-    requires { count ≤ length table.now }
-    ensures { (result ≡ length (runs_from (meets_in table.now set) 0 count)) × (result ≤ count) }
-{
-    let mut runs = 0;
-    let mut next = false;
-    let mut s = count;
-    while 0 < s {
-        s -= 1;
-        let at = s as usize;
-        let passes = sets::contains(table[at], set);
-        runs += ends_run(passes, next);
-        next = passes;
-    }
-    runs
-}
-
-// Whether a start is written into a column: into the firsts wherever it passes, into the lasts where a run ends at it.
-fn is_written(first: bool, passes: bool, next: bool) -> bool
-    ensures { result ≡ writes first passes next }
-{
-    if passes {
-        if next {
-            return first;
-        }
-        return true;
-    }
-    false
-}
-
-// Writes s at the index `at` where it is to be written.
-fn write_if(written: bool, out: &mut [u32], at: usize, s: u32)
-    requires { written ≡ true → at < length out.old }
-    ensures { out.new ≡ cond written (set out.old at s) out.old }
-{
-    if written {
-        out[at] = s;
+impl<'a> Runs<'a> {
+    // The runs of all starts with these sets.
+    #[tactic(auto, using(crate::proofs::NextRuns::from_first, crate::proofs::RunSteps::few_runs))]
+    pub fn new(sets: &'a [u16], set: u16) -> Runs<'a>
+        requires { length sets.now < 2 ^ 32 }
+        ensures runs { result ≡ runs_from (meets_in sets.now set) 0 (length sets.now) }
+        ensures few { length result ≤ length sets.now }
+    {
+        Runs { sets, set, from: 0 }
     }
 }
 
-// Writes the firsts, or the lasts, of the runs of starts that meet the set, from the last run to the first. Of a run's
-// starts, each earlier one is written over the later as its first.
-pub fn write_column(table: &[u16], count: u32, set: u16, runs: usize, first: bool, out: &mut [u32])
-    requires { (count ≤ length table.now) × (runs ≡ length (runs_from (meets_in table.now set) 0 count)) × (runs ≤ length out.old) }
-    ensures { out.new ≡ slice_after (map (column first) (runs_from (meets_in table.now set) 0 count)) out.old }
+impl<'a> Iterator for Runs<'a> {
+    type Item = Interval;
+
+    ghost next_gives = { YieldsFirst (λ runs. runs) };
+
+    ghost remaining = { item_count (λ runs. runs) };
+
+    fn next(&mut self) -> Option<Interval> {
+        let run = next_run(self.sets, self.set, self.from)?;
+        self.from = run.last + 1;
+        Some(run)
+    }
+}
+
+// The first run of starts, from the start `from` on, that meet the set.
+fn next_run(sets: &[u16], set: u16, from: u32) -> Option<Interval>
+    requires { (from ≤ length sets.now) × (length sets.now < 2 ^ 32) }
+    ensures { NextRun (meets_in sets.now set) (length sets.now) from result }
 {
-    let mut to = runs;
-    let mut next = false;
-    let mut s = count;
-    while 0 < s {
-        s -= 1;
-        let at = s as usize;
-        let passes = sets::contains(table[at], set);
-        to -= ends_run(passes, next);
-        write_if(is_written(first, passes, next), out, to, s);
-        next = passes;
+    let rest = &sets[from as usize..];
+    let skipped = first_met(rest, set)?;
+    let count = met_in_a_row(&rest[skipped..], set);
+    let first = from + skipped as u32;
+    let last = first + count as u32 - 1;
+    Some(Interval { first, last })
+}
+
+// The index of the first set that has all of `set`.
+fn first_met(sets: &[u16], set: u16) -> Option<usize>
+    ensures { result ≡ position (λ met. holds_set met set) sets.now }
+{
+    sets.iter().position(|met| contains(*met, set))
+}
+
+// How many sets in a row, from the first one on, have all of `set`.
+fn met_in_a_row(sets: &[u16], set: u16) -> usize
+    ensures { result ≡ prefix_len (λ met. holds_set met set) sets.now }
+{
+    sets.iter().take_while(|met| contains(**met, set)).count()
+}
+
+// How many runs of starts meet the set.
+pub fn count_runs(sets: &[u16], set: u16) -> usize
+    requires { length sets.now < 2 ^ 32 }
+    ensures count { result ≡ length (runs_from (meets_in sets.now set) 0 (length sets.now)) }
+    ensures few { result ≤ length sets.now }
+{
+    Runs::new(sets, set).count()
+}
+
+// Writes the runs of starts that meet the set: the first start of each into one slice, the last into the other.
+pub fn write_runs(sets: &[u16], set: u16, firsts: &mut [u32], lasts: &mut [u32])
+    requires few { length sets.now < 2 ^ 32 }
+    requires firsts_room { length (runs_from (meets_in sets.now set) 0 (length sets.now)) ≤ length firsts.old }
+    requires lasts_room { length (runs_from (meets_in sets.now set) 0 (length sets.now)) ≤ length lasts.old }
+    ensures firsts { firsts.new ≡ slice_after (map (λ r. r.first) (runs_from (meets_in sets.now set) 0 (length sets.now))) firsts.old }
+    ensures lasts { lasts.new ≡ slice_after (map (λ r. r.last) (runs_from (meets_in sets.now set) 0 (length sets.now))) lasts.old }
+{
+    for (i, run) in Runs::new(sets, set).enumerate() {
+        firsts[i] = run.first;
+        lasts[i] = run.last;
     }
 }

@@ -1,7 +1,7 @@
-pub mod Digits
-pub mod Same
 pub mod Put
 pub mod Decimal
-pub mod Parts
-pub mod Items
+pub mod Splits
+pub mod Digits
 pub mod Pairs
+pub mod Items
+pub mod Same

@@ -4,4 +4,5 @@ pub mod bytes;
 pub mod field;
 pub mod list;
 pub mod number;
+pub mod parts;
 pub mod word;

@@ -4,58 +4,33 @@ ghost use Rattle.rules.specs.Number.{decimal};
 ghost use Rattle.text.specs.Text.{number_of, put};
 ghost use Rattle.text.specs.Cursor.{digits_from};
 
-// What a text says as a number.
-#[derive(Clone, Copy)]
-pub enum Number {
-    Value(u64),
-    Malformed,
-}
-
-// A byte as a wider number.
-fn wide(x: u8) -> u64
-    ensures { result ≡ x }
-{
-    x as u64
-}
-
 // The value of s, where each byte is a digit.
-fn digits(s: &[u8]) -> Number
+fn digits(s: &[u8]) -> Option<u64>
     requires { length s.now ≤ 10 }
     ensures { result ≡ digits_from 0 s.now }
 {
     let mut value: u64 = 0;
-    let mut i = 0;
-    while i < s.len() {
-        let b = s[i];
-        if b < b'0' {
-            return Number::Malformed;
+    for &b in s {
+        if !b.is_ascii_digit() {
+            return None;
         }
-        if b'9' < b {
-            return Number::Malformed;
-        }
-        value = value * 10 + wide(b - b'0');
-        i += 1;
+        value = value * 10 + u64::from(b - b'0');
     }
-    Number::Value(value)
+    Some(value)
 }
 
 // How many digits a number may have.
 const MOST_DIGITS: usize = 10;
 
 // The number that all of s is.
-pub fn read_number(s: &[u8]) -> Number
+pub fn read_number(s: &[u8]) -> Option<u64>
     ensures { result ≡ number_of s.now }
 {
-    if s.len() < 1 {
-        return Number::Malformed;
+    if s.is_empty() || MOST_DIGITS < s.len() {
+        return None;
     }
-    if MOST_DIGITS < s.len() {
-        return Number::Malformed;
-    }
-    if 1 < s.len() {
-        if s[0] == b'0' {
-            return Number::Malformed;
-        }
+    if 1 < s.len() && s[0] == b'0' {
+        return None;
     }
     digits(s)
 }
@@ -64,6 +39,7 @@ pub fn read_number(s: &[u8]) -> Number
 pub fn decimal_len(x: u64) -> usize
     ensures { (result ≡ length (decimal x)) × (result ≤ 20) }
 {
+    // The number itself counts the steps.
     let mut n = 1;
     let mut y = x;
     while 10 <= y {

@@ -1,31 +1,19 @@
--- How a byte is shown, by its kind.
+-- Bytes are shown one by one.
 -- Assumes nothing.
-use Prim.Native.Nat.{ℕ, ◌/◌, ◌%◌, ◌<◌, ◌≤◌}
+use Prim.Native.Nat.{ℕ, ◌+◌, ◌<◌}
+use native.Mathlib.Numerals.{add-one}
+use lib.ListN.{length, get_or, take}
+use lib.Seq.{take-suc}
 use mathlib.Core.Path.{◌≡◌, sym}
 use mathlib.Core.List.{List, [], ◌∷◌, ◌++◌, append_assoc, append-nil}
-use native.Mathlib.Omega.{arith}
-use borrow.Author.Tests.{lt-ltb, le-ltb, lt-leb, le-leb}
-use Rattle.wording.specs.Shown.{hex_digit, escape_of, is_printed, shown_byte, shown}
-
-module _ (b e : ℕ) (is : e ≡ escape_of b) where
-  pub shown_escaped : 0 < e → shown_byte b ≡ 92 ∷ e ∷ []
-  unfolding shown_byte
-  shown_escaped h = rw (← is, lt-ltb 0 e h)
-
-  pub shown_low : e ≤ 0 → b < 32 → shown_byte b ≡ 92 ∷ 120 ∷ hex_digit (b / 16) ∷ hex_digit (b % 16) ∷ []
-  unfolding shown_byte is_printed
-  shown_low h l = rw (← is, le-ltb 0 e h, lt-leb 32 b l)
-
-  pub shown_high : e ≤ 0 → 126 < b → shown_byte b ≡ 92 ∷ 120 ∷ hex_digit (b / 16) ∷ hex_digit (b % 16) ∷ []
-  unfolding shown_byte is_printed
-  shown_high h l = rw (← is, le-ltb 0 e h, le-leb 32 b (omega arith), lt-leb b 126 l)
-
-  pub shown_printed : e ≤ 0 → 32 ≤ b → b ≤ 126 → shown_byte b ≡ b ∷ []
-  unfolding shown_byte is_printed
-  shown_printed h l m = rw (← is, le-ltb 0 e h, le-leb 32 b l, le-leb b 126 m)
+use Rattle.wording.specs.Shown.{shown_byte, shown}
 
 -- one byte more
 pub shown_more : (s : List ℕ) (b : ℕ) → shown (s ++ (b ∷ [])) ≡ shown s ++ shown_byte b
 unfolding shown
 shown_more [] b = append-nil (shown_byte b)
 shown_more (x ∷ s) b = rw (shown_more s b) (sym (append_assoc (shown_byte x) (shown s) (shown_byte b)))
+
+-- one byte more of a list
+pub shown_next : (s : List ℕ) (i : ℕ) → i < length s → shown (take (i + 1) s) ≡ shown (take i s) ++ shown_byte (get_or s i 0)
+shown_next s i h = rw (add-one, take-suc s i 0 h) (shown_more (take i s) (get_or s i 0))

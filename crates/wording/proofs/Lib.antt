@@ -1,3 +1,3 @@
 pub mod Pieces
 pub mod Escapes
-pub mod WrongFields
+pub mod FirstWrong

@@ -1,107 +1,82 @@
--- A text written byte by byte and piece by piece.
+-- A text written piece by piece.
 -- Assumes nothing.
-use Prim.Native.Nat.{ℕ, suc, ◌+◌, ◌-◌, ◌<◌, ◌≤◌}
-use mathlib.Core.Path.{◌≡◌, sym, ◌∙◌, ap, subst}
-use mathlib.Core.List.{List, [], ◌∷◌, ◌++◌, append_assoc, append-nil}
-use native.Mathlib.Omega.{arith}
-use lib.ListN.{length, get_or, take, drop, set, length-append, length-take, drop_of_length-le}
-use lib.Seq.{take-nil, drop-nil, take_all, take-append-le, drop-append-le, drop-cons, set-append_seam, length_front, take_at}
-use Rattle.rules.specs.Calls.{slice_after}
+use Rattle.std.proofs.Common.{min, ◌≡◌, ℕ, zero, suc, ◌+◌, ◌-◌, ◌≤◌, List, [], ◌∷◌, ◌++◌, length, take, drop, refl, sym, ap, ap₂, ◌∙◌, arith, append_assoc, length-append}
+use Rattle.std.proofs.lemmas.List.{length-take, take_min, drop_min}
+use mathlib.Core.List.{append-nil}
+use lib.Seq.{take-nil, drop-nil}
 use Rattle.text.specs.Text.{put}
-use Rattle.wording.specs.Writing.{part}
-use Rattle.wording.specs.Writing.{Stands, Wrote}
-use Rattle.wording.specs.declared.writing.Cursor.{Cursor}
+use Rattle.text.proofs.Put.{put_end}
+use Rattle.wording.specs.Writing.{part_most, part, Written, with_more, together}
 
--- nothing is written yet
-pub stands_none : (from : ℕ) (lent : List ℕ) → Stands from lent [] (record { skip = from; to = 0 }) lent
-unfolding part slice_after
-stands_none from lent =
-    let none : take {A = ℕ} (length lent) (drop from []) ≡ [] = rw (drop-nil {A = ℕ} from) (take-nil (length lent)) in
-    record { skips = omega arith; behind = rw none; holds = rw none }
+-- the front and the rest of two lists, one behind the other
+take_over : {A : Type 0} (n : ℕ) (xs ys : List A) → take n (xs ++ ys) ≡ take n xs ++ take (n - length xs) ys
+take_over n [] ys =
+    let e : n - 0 ≡ n = omega arith in
+    rw (take-nil n, e) refl
+take_over zero (x ∷ xs) ys =
+    let e : 0 - suc (length xs) ≡ 0 = omega arith in
+    rw e refl
+take_over {A} (suc n) (x ∷ xs) ys =
+    let e : suc n - suc (length xs) ≡ n - length xs = omega arith in
+    rw e (ap (λ (zs : List A). x ∷ zs) (take_over n xs ys))
 
--- a part that another text has, too
-same_part : (from : ℕ) (lent text more : List ℕ) (c : Cursor) (old : List ℕ) (skip : ℕ) → Stands from lent text c old → part from (length lent) more ≡ part from (length lent) text → skip ≡ from - length more → Stands from lent more (record { skip = skip; to = c.to }) old
-same_part from lent text more c old skip S e f = record { skips = f; behind = S.behind ∙ ap length (sym e); holds = S.holds ∙ ap (λ (w : List ℕ). slice_after w lent) (sym e) }
+drop_over : {A : Type 0} (n : ℕ) (xs ys : List A) → drop n (xs ++ ys) ≡ drop n xs ++ drop (n - length xs) ys
+drop_over n [] ys =
+    let e : n - 0 ≡ n = omega arith in
+    rw (drop-nil n, e) refl
+drop_over zero (x ∷ xs) ys =
+    let e : 0 - suc (length xs) ≡ 0 = omega arith in
+    rw e refl
+drop_over (suc n) (x ∷ xs) ys =
+    let e : suc n - suc (length xs) ≡ n - length xs = omega arith in
+    rw e (drop_over n xs ys)
 
--- the slice keeps its length
-stands_length : (from : ℕ) (lent text : List ℕ) (c : Cursor) (old : List ℕ) → Stands from lent text c old → length old ≡ length lent
-unfolding part slice_after
-stands_length from lent text c old S =
-    let xs : List ℕ = drop from text in
-    let fits : length (take (length lent) xs) ≡ length (take (length (take (length lent) xs)) lent) = simp length-take (omega arith) in
-    ap length S.holds ∙ length_front lent (take (length lent) xs) (length (take (length lent) xs)) fits
-
--- and the cursor stands within it
-pub stands_inside : (from : ℕ) (lent text : List ℕ) (c : Cursor) (old : List ℕ) → Stands from lent text c old → c.to ≤ length old
-unfolding part
-stands_inside from lent text c old S = omega (arith, S.behind, length-take (length lent) (drop from text), stands_length from lent text c old S)
-
-module _ (b : ℕ) (c : Cursor) (old : List ℕ) where
-  -- a byte before the part
-  pub byte_skipped : 0 < c.skip → Wrote (b ∷ []) c old (record { skip = c.skip - 1; to = c.to }) old
-  unfolding part
-  byte_skipped h =
-      record {
-        goes = λ from lent text S.
-            let long : length (text ++ (b ∷ [])) ≡ length text + 1 = length-append text (b ∷ []) in
-            let before : drop from text ≡ [] = drop_of_length-le text {i = from} (omega (arith, S.skips)) in
-            let after : drop from (text ++ (b ∷ [])) ≡ [] = drop_of_length-le (text ++ (b ∷ [])) {i = from} (omega (arith, S.skips, long)) in
-            same_part from lent text (text ++ (b ∷ [])) c old (c.skip - 1) S (rw (before, after)) (omega (arith, S.skips, long));
-      }
-
-  -- a byte behind the part
-  pub byte_left : c.skip ≡ 0 → length old ≤ c.to → Wrote (b ∷ []) c old c old
-  unfolding part
-  byte_left z h =
-      record {
-        goes = λ from lent text S.
-            let long : length (text ++ (b ∷ [])) ≡ length text + 1 = length-append text (b ∷ []) in
-            let split : drop from (text ++ (b ∷ [])) ≡ drop from text ++ (b ∷ []) = drop-append-le from text (b ∷ []) (omega (arith, S.skips)) in
-            let full : length lent ≤ length (drop from text) = omega (arith, S.behind, length-take (length lent) (drop from text), stands_length from lent text c old S) in
-            same_part from lent text (text ++ (b ∷ [])) c old c.skip S (rw split (take-append-le (length lent) (drop from text) (b ∷ []) full)) (omega (arith, S.skips, long));
-      }
-
-  -- a byte of the part
-  pub byte_written : c.skip ≡ 0 → c.to < length old → Wrote (b ∷ []) c old (record { skip = c.skip; to = c.to + 1 }) (set old c.to b)
-  unfolding part slice_after
-  byte_written z h =
-      record {
-        goes = λ from lent text S.
-            let xs : List ℕ = drop from text in
-            let n : ℕ = length lent in
-            let long : length (text ++ (b ∷ [])) ≡ length text + 1 = length-append text (b ∷ []) in
-            let split : drop from (text ++ (b ∷ [])) ≡ xs ++ (b ∷ []) = drop-append-le from text (b ∷ []) (omega (arith, S.skips)) in
-            let room : length xs < n = omega (arith, S.behind, length-take n xs, stands_length from lent text c old S) in
-            let all : take n xs ≡ xs = take_all n xs (omega arith) in
-            let more : length (xs ++ (b ∷ [])) ≡ length xs + 1 = length-append xs (b ∷ []) in
-            let whole : take n (xs ++ (b ∷ [])) ≡ xs ++ (b ∷ []) = take_all n (xs ++ (b ∷ [])) (omega (arith, more)) in
-            let at : c.to ≡ length xs = S.behind ∙ ap length all in
-            let next : length (xs ++ (b ∷ [])) ≡ suc (length xs) = omega (arith, more) in
-            let x : ℕ = get_or lent (length xs) 0 in
-            let was : old ≡ xs ++ (x ∷ drop (suc (length xs)) lent) = S.holds ∙ rw all (ap (λ (w : List ℕ). xs ++ w) (drop-cons lent (length xs) 0 room)) in
-            record {
-              skips = omega (arith, S.skips, long);
-              behind = rw (split, whole) (omega (arith, more, at));
-              holds = rw (split, whole, at, was, next) (set-append_seam xs x (drop (suc (length xs)) lent) b ∙ sym (append_assoc xs (b ∷ []) (drop (suc (length xs)) lent)));
-            };
-      }
+same_written : (k l : ℕ) (u w : List ℕ) → k ≡ l → u ≡ w → ◌≡◌ {A = Written} (record { skip = k; bytes = u }) (record { skip = l; bytes = w })
+same_written k l u w e f = ap₂ (λ (k : ℕ) (u : List ℕ). record { skip = k; bytes = u }) e f
 
 -- no piece
-pub wrote_none : (c : Cursor) (old : List ℕ) → Wrote [] c old c old
-wrote_none c old = record { goes = λ from lent text S. rw append-nil S }
+pub more_none : (p : Written) → with_more p [] ≡ p
+unfolding with_more
+more_none p = same_written _ _ _ _ (omega arith) (rw (drop-nil {A = ℕ} p.skip, take-nil {A = ℕ} (part_most - length p.bytes)) (append-nil p.bytes))
 
--- one piece behind another
-pub wrote_then : {w v : List ℕ} {c : Cursor} {old : List ℕ} {d : Cursor} {mid : List ℕ} {r : Cursor} {new : List ℕ} → Wrote w c old d mid → Wrote v d mid r new → Wrote (w ++ v) c old r new
-wrote_then {w} {v} {c} {old} {d} {mid} {r} {new} F G =
-    record { goes = λ from lent text S. subst (λ (t : List ℕ). Stands from lent t r new) (append_assoc text w v) (G.goes from lent (text ++ w) (F.goes from lent text S)) }
+-- two pieces are one
+pub more_then : (p : Written) (u w : List ℕ) → with_more (with_more p u) w ≡ with_more p (u ++ w)
+unfolding with_more
+more_then p u w =
+    let m = part_most - length p.bytes in
+    let us = drop p.skip u in
+    let ws = drop (p.skip - length u) w in
+    let left : part_most - length (p.bytes ++ take m us) ≡ m - length us = omega (arith, length-append p.bytes (take m us), length-take m us) in
+    let more : p.bytes ++ take m us ++ take (m - length us) ws ≡ p.bytes ++ take m (drop p.skip (u ++ w)) =
+    append_assoc p.bytes (take m us) (take (m - length us) ws)
+    ∙ ap (λ (xs : List ℕ). p.bytes ++ xs) (sym (take_over m us ws) ∙ ap (take m) (sym (drop_over p.skip u w)))
+    in
+    same_written _ _ _ _ (omega (arith, length-append u w)) (ap (λ (k : ℕ). p.bytes ++ take m us ++ take k ws) left ∙ more)
 
--- the same text by another name
-pub wrote_as : {w v : List ℕ} {c : Cursor} {old : List ℕ} {r : Cursor} {new : List ℕ} → w ≡ v → Wrote w c old r new → Wrote v c old r new
-wrote_as {c = c} {old = old} {r = r} {new = new} e F = subst (λ (t : List ℕ). Wrote t c old r new) e F
+-- pieces written one behind the other
+abbrev pub written : Written → List (List ℕ) → Written
+written p [] = p
+written p (w ∷ ws) = written (with_more p w) ws
 
--- a text at the front of a slice
-pub front_is : (l w new : List ℕ) (n : ℕ) → new ≡ put l 0 w → n ≡ 0 + length w → take (n - 0) (drop 0 new) ≡ w
-unfolding put
-front_is l w new n e f =
-    let long : length w ≡ n - 0 = omega arith in
-    ap (λ (v : List ℕ). take (n - 0) v) e ∙ take_at w (drop (0 + length w) l) (n - 0) long
+pub pieces : (p : Written) (ws : List (List ℕ)) → written p ws ≡ with_more p (together ws)
+pieces p [] = sym (more_none p)
+pieces p (w ∷ ws) = pieces (with_more p w) ws ∙ more_then p w (together ws)
+
+-- a whole text leaves its part
+pub more_part : (from : ℕ) (text : List ℕ) → (with_more (record { skip = from; bytes = [] }) text).bytes ≡ part from text
+unfolding with_more part
+more_part from text = refl
+
+-- one piece more, as the code writes it
+pub piece_written : (skip count passed kept end : ℕ) (room new w rest piece : List ℕ) → passed ≡ min skip (length w) → rest ≡ drop passed w → kept ≡ min (length rest) (part_most - count) → piece ≡ take kept rest
+    → count ≤ part_most → length room ≡ part_most → end ≡ count + length piece → new ≡ put room count piece
+    → ◌≡◌ {A = Written} (record { skip = skip - passed; bytes = take end new }) (with_more (record { skip = skip; bytes = take count room }) w)
+unfolding with_more
+piece_written skip count passed kept end room new w rest piece e r f p h l g n =
+    let fits : count + length piece ≤ length room = omega (arith, ap length p, length-take kept rest) in
+    let before : length (take count room) ≡ count = omega (arith, length-take count room) in
+    let least : kept ≡ min (part_most - count) (length rest) = omega arith in
+    let whole : piece ≡ take (part_most - length (take count room)) (drop skip w) =
+    p ∙ rw least (take_min (part_most - count) rest) ∙ ap (λ (k : ℕ). take (part_most - k) rest) (sym before) ∙ ap (take (part_most - length (take count room))) (r ∙ rw e (drop_min skip w))
+    in
+    same_written _ _ _ _ (omega arith) (rw (g, n) (put_end room count piece fits) ∙ ap (λ (v : List ℕ). take count room ++ v) whole)

@@ -1,5 +1,5 @@
 -- Which field of a line is the first that is wrong, by the ranges of document 01.
-use Rattle.std.specs.Prelude.{ℕ, suc, Bool, true, false, cond, List, [], ◌∷◌}
+use Rattle.std.specs.Prelude.{ℕ, suc, Bool, true, false, cond, List, [], ◌∷◌, eqb, Option, Some, None}
 use Rattle.rules.specs.Lines.{field}
 use Rattle.rules.specs.Fields.{Read, value, fault, number_field, list_field, numbers, window_kind, setting_kind}
 
@@ -54,3 +54,7 @@ act_fields horizon fs =
 unfoldable pub first_wrong : ℕ → List Bool → ℕ
 first_wrong i [] = 0
 first_wrong i (right ∷ rest) = cond right (first_wrong (suc i) rest) i
+
+-- a field by its number, which is none where that is 0
+abbrev pub field_in : ℕ → Option ℕ
+field_in k = cond (eqb k 0) None (Some k)

@@ -1,23 +1,24 @@
--- A text that is written piece by piece, of which the lent slice gets the part from a given byte on.
-use Rattle.std.specs.Prelude.{ℕ, ◌-◌, ◌≡◌, List, [], ◌∷◌, ◌++◌, length, take, drop}
-use Rattle.rules.specs.Calls.{slice_after}
-use Rattle.wording.specs.declared.writing.Cursor.{Cursor}
+-- A text that is written piece by piece, of which the part from a given byte on is kept.
+use Rattle.std.specs.Prelude.{ℕ, ◌-◌, List, [], ◌∷◌, ◌++◌, length, take, drop}
+
+-- the most bytes of a part
+abbrev pub part_most : ℕ
+part_most = 262144
+
+-- the part of a text from byte `from` on
+unfoldable pub part : ℕ → List ℕ → List ℕ
+part from text = take part_most (drop from text)
+
+-- how many of the bytes to come are passed over, and the bytes kept
+pub record Written : Type 0 where
+  pub skip : ℕ
+  pub bytes : List ℕ
+
+-- w written behind them
+unfoldable pub with_more : Written → List ℕ → Written
+with_more p w = record { skip = p.skip - length w; bytes = p.bytes ++ take (part_most - length p.bytes) (drop p.skip w) }
 
 -- the pieces one behind the other
 abbrev pub together : List (List ℕ) → List ℕ
 together [] = []
 together (w ∷ ws) = w ++ together ws
-
--- the part of a text from byte `from` on that a slice of `room` bytes holds
-unfoldable pub part : ℕ → ℕ → List ℕ → List ℕ
-part from room text = take room (drop from text)
-
--- the text is written: its part stands at the front of the slice that was lent, and the cursor is behind it
-pub record Stands (from : ℕ) (lent text : List ℕ) (c : Cursor) (slice : List ℕ) : Type 0 where
-  pub skips : c.skip ≡ from - length text
-  pub behind : c.to ≡ length (part from (length lent) text)
-  pub holds : slice ≡ slice_after (part from (length lent) text) lent
-
--- w was written behind whatever text was written before
-pub record Wrote (w : List ℕ) (c : Cursor) (old : List ℕ) (r : Cursor) (new : List ℕ) : Type 0 where
-  pub goes : (from : ℕ) (lent text : List ℕ) → Stands from lent text c old → Stands from lent (text ++ w) r new

@@ -1,84 +1,52 @@
 // Bytes as people see them: those that are not printed stand behind a backslash.
-ghost use Rattle.std.specs.Prelude.{◌≡◌, [], ◌∷◌, ◌/◌, ◌%◌, ◌<◌};
-ghost use Rattle.wording.specs.Shown.{hex_digit, escape_of, shown_byte, shown};
-ghost use Rattle.wording.specs.Writing.{Wrote};
+ghost use Rattle.std.specs.Prelude.{◌≡◌, ◌<◌, Option};
+ghost use Rattle.wording.specs.Shown.{hex_digit, escape_in, shown_byte, shown};
+ghost use Rattle.wording.specs.Writing.{with_more};
 
-use crate::writing::{Cursor, put_byte};
+use crate::writing::Part;
 
 // The hexadecimal digit x.
+#[tactic(auto, unfolding(crate::specs::Shown::hex_digit))]
 fn hex_digit(x: u8) -> u8
     requires { x < 16 }
     ensures { result ≡ hex_digit x }
 {
-    if x < 10 {
-        return 48 + x;
-    }
-    87 + x
+    if x < 10 { b'0' + x } else { b'a' + x - 10 }
 }
 
-// The letter behind the backslash, 0 for a byte that has none.
-fn escape_of(b: u8) -> u8
-    ensures { result ≡ escape_of b }
+// The letter behind the backslash, for a byte that has one.
+#[tactic(auto, unfolding(crate::specs::Shown::escape_of, crate::specs::Shown::escape_in))]
+fn escape_of(b: u8) -> Option<u8>
+    ensures { result ≡ escape_in b }
 {
-    if b == b'\t' {
-        return b't';
+    match b {
+        b'\t' => Some(b't'),
+        b'\n' => Some(b'n'),
+        b'\r' => Some(b'r'),
+        b'\\' => Some(b'\\'),
+        _ => None,
     }
-    if b == b'\n' {
-        return b'n';
-    }
-    if b == b'\r' {
-        return b'r';
-    }
-    if b == b'\\' {
-        return b'\\';
-    }
-    0
-}
-
-// Writes two bytes.
-fn put_pair(out: &mut [u8], c: Cursor, x: u8, y: u8) -> Cursor
-    ensures { Wrote (x ∷ y ∷ []) c out.old result out.new }
-{
-    let next = put_byte(out, c, x);
-    put_byte(out, next, y)
-}
-
-// Writes a byte by its two hexadecimal digits.
-fn put_hex(out: &mut [u8], c: Cursor, b: u8) -> Cursor
-    ensures { Wrote (92 ∷ 120 ∷ hex_digit (b / 16) ∷ hex_digit (b % 16) ∷ []) c out.old result out.new }
-{
-    let high = hex_digit(b / 16);
-    let low = hex_digit(b % 16);
-    let next = put_pair(out, c, b'\\', b'x');
-    put_pair(out, next, high, low)
 }
 
 // Writes a byte as it is shown.
-fn put_shown_byte(out: &mut [u8], c: Cursor, b: u8) -> Cursor
-    ensures { Wrote (shown_byte b) c out.old result out.new }
+#[tactic(auto, unfolding(crate::specs::Shown::shown_byte, crate::specs::Shown::is_printed, crate::specs::Shown::escape_in))]
+fn put_shown_byte(out: &mut Part, b: u8)
+    ensures { out.new ≡ with_more out.old (shown_byte b) }
 {
-    let escape = escape_of(b);
-    if 0 < escape {
-        return put_pair(out, c, b'\\', escape);
+    if let Some(letter) = escape_of(b) {
+        return out.push(&[b'\\', letter]);
     }
-    if b < 32 {
-        return put_hex(out, c, b);
+    if b < 32 || 126 < b {
+        return out.push(&[b'\\', b'x', hex_digit(b / 16), hex_digit(b % 16)]);
     }
-    if 126 < b {
-        return put_hex(out, c, b);
-    }
-    put_byte(out, c, b)
+    out.push(&[b]);
 }
 
 // Writes bytes as they are shown.
-pub fn put_shown(out: &mut [u8], c: Cursor, s: &[u8]) -> Cursor
-    ensures { Wrote (shown s.now) c out.old result out.new }
+pub fn put_shown(out: &mut Part, s: &[u8])
+    ensures { out.new ≡ with_more out.old (shown s.now) }
 {
-    let mut next = c;
-    let mut i = 0;
-    while i < s.len() {
-        next = put_shown_byte(out, next, s[i]);
-        i += 1;
+    for b in s {
+        put_shown_byte(out, *b);
     }
-    next
 }

@@ -1,109 +1,122 @@
-// What a refusal's number, a condition and a line's field are, in words: tables whose entries are parted by tabs.
+// What a refusal, a condition and a line's field are, in words.
+ghost use Rattle.std.specs.Prelude.{◌≡◌};
+ghost use Rattle.rules.specs.Refusals.{number_of};
 ghost use Rattle.wording.specs.Words.{refusal_words, condition_words, plan_field_words, act_field_words};
 ghost use Rattle.wording.specs.Words.{line_words, field_words};
-ghost use Rattle.wording.specs.Writing.{Wrote};
 
-use crate::writing::{Cursor, put_word};
-use text::field::field_at;
+use rules::Fault;
 
-// Writes what the refusal of this number is.
-pub fn put_refusal_words(out: &mut [u8], c: Cursor, number: u32) -> Cursor
-    ensures { Wrote (refusal_words number) c out.old result out.new }
+// What the refusal of this fault is; no words for those of a call, which no file has.
+#[tactic(auto, unfolding(crate::specs::Words::refusal_words))]
+pub fn refusal_words(fault: Fault) -> &'static [u8]
+    ensures { result.now ≡ refusal_words (number_of fault) }
 {
-    let words = b"\t\
-        the file has more than 60000 bytes\t\
-        the first word or the number of fields is wrong, or the line does not end in LF\t\
-        a number or an item of a list is not written as it must be, or the field is empty\t\
-        a number is out of its range\t\
-        this is the 65th activity line, and a plan has at most 64\t\
-        an earlier line has the same id\t\
-        after names an id that no activity at an earlier place has\t\
-        the list does not rise, a window ends before it begins, or there are too many items\t\
-        with nothing placed, the charge at the horizon is under the handover charge";
-    put_word(out, c, field_at(words, number as usize))
+    match fault {
+        Fault::TooLong => b"the file has more than 60000 bytes",
+        Fault::NotFormed =>
+            b"the first word or the number of fields is wrong, or the line does not end in LF",
+        Fault::Malformed =>
+            b"a number or an item of a list is not written as it must be, or the field is empty",
+        Fault::OutOfRange => b"a number is out of its range",
+        Fault::TooMany => b"this is the 65th activity line, and a plan has at most 64",
+        Fault::Repeated => b"an earlier line has the same id",
+        Fault::Misplaced => b"after names an id that no activity at an earlier place has",
+        Fault::NotRising =>
+            b"the list does not rise, a window ends before it begins, or there are too many items",
+        Fault::OutOfReach =>
+            b"with nothing placed, the charge at the horizon is under the handover charge",
+        Fault::NoRoom | Fault::NoPlace | Fault::NoSet => b"",
+    }
 }
 
-// Writes what the condition of this number asks.
-pub fn put_condition_words(out: &mut [u8], c: Cursor, condition: u32) -> Cursor
-    ensures { Wrote (condition_words condition) c out.old result out.new }
+// What the condition of this number asks.
+#[tactic(auto, unfolding(crate::specs::Words::condition_words))]
+pub fn condition_words(condition: u32) -> &'static [u8]
+    ensures { result.now ≡ condition_words condition }
 {
-    let words = b"the start is in one of its windows\t\
-        each activity in after is placed and ends by the start\t\
-        no placed activity that shares a unit holds one of its ticks\t\
-        every need, its own and those of the placed, is met in each tick that its activity holds\t\
-        in every tick the engines sum to at most those of the plan\t\
-        in every tick the peaks sum to at most the peak limit\t\
-        the charge keeps the floor, and the handover charge at the horizon\t\
-        the volumes sum to at most the volume limit\t\
-        the warm-up begins at tick 0 or later";
-    put_word(out, c, field_at(words, condition as usize))
+    match condition {
+        0 => b"the start is in one of its windows",
+        1 => b"each activity in after is placed and ends by the start",
+        2 => b"no placed activity that shares a unit holds one of its ticks",
+        3 =>
+            b"every need, its own and those of the placed, is met in each tick that its activity holds",
+        4 => b"in every tick the engines sum to at most those of the plan",
+        5 => b"in every tick the peaks sum to at most the peak limit",
+        6 => b"the charge keeps the floor, and the handover charge at the horizon",
+        7 => b"the volumes sum to at most the volume limit",
+        8 => b"the warm-up begins at tick 0 or later",
+        _ => b"",
+    }
 }
 
-// Writes what this field of the first line must be.
-fn put_plan_field_words(out: &mut [u8], c: Cursor, field: u32) -> Cursor
-    ensures { Wrote (plan_field_words field) c out.old result out.new }
+// What this field of the first line must be.
+#[tactic(auto, unfolding(crate::specs::Words::plan_field_words))]
+fn plan_field_words(field: u32) -> &'static [u8]
+    ensures { result.now ≡ plan_field_words field }
 {
-    let words = b"plan\t\
-        horizon, 1 to 4096\t\
-        minute of day at tick 0, 0 to 1439\t\
-        capacity, 1 to 1000000000\t\
-        floor, 0 to the capacity\t\
-        first charge, the floor to the capacity\t\
-        charging rate, 0 to 1000000\t\
-        handover charge, 0 to the capacity\t\
-        engines, 0 to 64\t\
-        peak limit, 0 to 1000000\t\
-        volume limit, 0 to 1000000000\t\
-        heater draw, 0 to 1000000";
-    put_word(out, c, field_at(words, field as usize))
+    match field {
+        0 => b"plan",
+        1 => b"horizon, 1 to 4096",
+        2 => b"minute of day at tick 0, 0 to 1439",
+        3 => b"capacity, 1 to 1000000000",
+        4 => b"floor, 0 to the capacity",
+        5 => b"first charge, the floor to the capacity",
+        6 => b"charging rate, 0 to 1000000",
+        7 => b"handover charge, 0 to the capacity",
+        8 => b"engines, 0 to 64",
+        9 => b"peak limit, 0 to 1000000",
+        10 => b"volume limit, 0 to 1000000000",
+        11 => b"heater draw, 0 to 1000000",
+        _ => b"",
+    }
 }
 
-// Writes what this field of an activity's line must be.
-fn put_act_field_words(out: &mut [u8], c: Cursor, field: u32) -> Cursor
-    ensures { Wrote (act_field_words field) c out.old result out.new }
+// What this field of an activity's line must be.
+#[tactic(auto, unfolding(crate::specs::Words::act_field_words))]
+fn act_field_words(field: u32) -> &'static [u8]
+    ensures { result.now ≡ act_field_words field }
 {
-    let words = b"act\t\
-        id, 0 to 65535\t\
-        priority, 0 to 65535\t\
-        duration, 1 to the horizon\t\
-        preferred tick, 0 to 4095\t\
-        windows, - or up to 4 of the form a:b, 0 to 4095, each a at most its b and above the b before\t\
-        after, - or up to 8 ids, 0 to 65535, rising\t\
-        units, - or up to 32 numbers, 0 to 31, rising\t\
-        needs, - or up to 4 of the form v=k, v 0 to 7 and rising, k 0 to 255\t\
-        sets, - or up to 4 of the form v=k, v 0 to 7 and rising, k 0 to 255\t\
-        engines, 0 to 64\t\
-        peak, 0 to 1000000\t\
-        draw, 0 to 1000000\t\
-        volume, 0 to 1000000000\t\
-        warm, 0 or 1";
-    put_word(out, c, field_at(words, field as usize))
+    match field {
+        0 => b"act",
+        1 => b"id, 0 to 65535",
+        2 => b"priority, 0 to 65535",
+        3 => b"duration, 1 to the horizon",
+        4 => b"preferred tick, 0 to 4095",
+        5 =>
+            b"windows, - or up to 4 of the form a:b, 0 to 4095, each a at most its b and above the b before",
+        6 => b"after, - or up to 8 ids, 0 to 65535, rising",
+        7 => b"units, - or up to 32 numbers, 0 to 31, rising",
+        8 => b"needs, - or up to 4 of the form v=k, v 0 to 7 and rising, k 0 to 255",
+        9 => b"sets, - or up to 4 of the form v=k, v 0 to 7 and rising, k 0 to 255",
+        10 => b"engines, 0 to 64",
+        11 => b"peak, 0 to 1000000",
+        12 => b"draw, 0 to 1000000",
+        13 => b"volume, 0 to 1000000000",
+        14 => b"warm, 0 or 1",
+        _ => b"",
+    }
 }
 
-// Writes what this field of a line must be.
-pub fn put_field_words(out: &mut [u8], c: Cursor, line: u32, field: u32) -> Cursor
-    ensures { Wrote (field_words line field) c out.old result out.new }
+// What this field of a line must be.
+#[tactic(auto, unfolding(crate::specs::Words::field_words))]
+pub fn field_words(line: u32, field: u32) -> &'static [u8]
+    ensures { result.now ≡ field_words line field }
 {
     if line == 1 {
-        return put_plan_field_words(out, c, field);
+        plan_field_words(field)
+    } else {
+        act_field_words(field)
     }
-    put_act_field_words(out, c, field)
 }
 
-// Writes what a line must be.
-pub fn put_line_words(out: &mut [u8], c: Cursor, line: u32) -> Cursor
-    ensures { Wrote (line_words line) c out.old result out.new }
+// What a line must be.
+#[tactic(auto, unfolding(crate::specs::Words::line_words, crate::specs::Words::plan_line_words, crate::specs::Words::act_line_words))]
+pub fn line_words(line: u32) -> &'static [u8]
+    ensures { result.now ≡ line_words line }
 {
     if line == 1 {
-        return put_word(
-            out,
-            c,
-            b"12 fields parted by one tab each, the first of them plan, and LF at the end",
-        );
+        b"12 fields parted by one tab each, the first of them plan, and LF at the end"
+    } else {
+        b"15 fields parted by one tab each, the first of them act, and LF at the end"
     }
-    put_word(
-        out,
-        c,
-        b"15 fields parted by one tab each, the first of them act, and LF at the end",
-    )
 }

@@ -1,57 +1,68 @@
-// A text written piece by piece, of which the lent slice gets the part from a given byte on.
-ghost use Rattle.std.specs.Prelude.{[], ◌∷◌, ◌++◌};
+// A text written piece by piece, of which the part from a given byte on is kept.
+ghost use Rattle.std.specs.Prelude.{◌≡◌, ℕ, ◌-◌, ◌≤◌, List, [], ◌∷◌, ◌++◌, length, take};
 ghost use Rattle.rules.specs.Number.{decimal};
-ghost use Rattle.wording.specs.Writing.{Wrote};
+ghost use Rattle.wording.specs.Writing.{Written, with_more};
 
-// How many bytes are still passed over, and where in the slice the next one is written.
-#[derive(Clone, Copy)]
-pub struct Cursor {
-    pub skip: usize,
-    pub to: usize,
+use std::marker::Model;
+use text::bytes::Bytes;
+use text::word::put_bytes;
+
+// How many bytes a part has at most.
+pub const PART: usize = 262144;
+
+// The part of a text: how many of the bytes to come are still passed over, and the bytes kept. Clauses see both.
+#[derive(Drop)]
+pub struct Part {
+    skip: usize,
+    room: [u8; PART],
+    count: usize,
 }
 
-// Writes one byte more.
-pub fn put_byte(out: &mut [u8], c: Cursor, b: u8) -> Cursor
-    ensures { Wrote (b ∷ []) c out.old result out.new }
-{
-    let skip = c.skip;
-    let to = c.to;
-    if 0 < skip {
-        return Cursor { skip: skip - 1, to };
+impl Model for Part {
+    ghost Value = { Written };
+
+    ghost view = { λ p. record { skip = p.skip; bytes = take p.count p.room } };
+
+    ghost invariant = { λ p. p.count ≤ 262144 };
+}
+
+impl Part {
+    // The part from byte `from` on, of which nothing is written yet.
+    pub fn new(from: usize) -> Self
+        ensures { result ≡ record { skip = from; bytes = [] } }
+    {
+        Part {
+            skip: from,
+            room: [0; PART],
+            count: 0,
+        }
     }
-    if to < out.len() {
-        out[to] = b;
-        return Cursor { skip, to: to + 1 };
+
+    // The bytes kept.
+    pub fn as_slice(&self) -> &[u8]
+        ensures value { result.now ≡ self.now.bytes }
+        ensures within { length self.now.bytes ≤ PART }
+    {
+        &self.room[..self.count]
     }
-    c
-}
 
-// Writes the bytes of a word.
-pub fn put_word(out: &mut [u8], c: Cursor, word: &[u8]) -> Cursor
-    ensures { Wrote word.now c out.old result out.new }
-{
-    let mut next = c;
-    let mut i = 0;
-    while i < word.len() {
-        next = put_byte(out, next, word[i]);
-        i += 1;
+    // Writes the bytes of a word.
+    pub fn push(&mut self, word: &[u8])
+        ensures { self.new ≡ with_more self.old word.now }
+    {
+        let passed = self.skip.min(word.len());
+        let rest = &word[passed..];
+        let kept = rest.len().min(PART - self.count);
+        self.skip -= passed;
+        self.count = put_bytes(&mut self.room, self.count, &rest[..kept]);
     }
-    next
-}
 
-// Writes the digits of a number.
-pub fn put_number(out: &mut [u8], c: Cursor, x: u64) -> Cursor
-    ensures { Wrote (decimal x) c out.old result out.new }
-{
-    let mut digits = [0u8; 20];
-    let n = text::number::put_number(&mut digits, 0, x);
-    put_word(out, c, &digits[0..n])
-}
-
-// Writes the bytes of a word and the digits of a number behind them.
-pub fn put_word_number(out: &mut [u8], c: Cursor, word: &[u8], x: u64) -> Cursor
-    ensures { Wrote (word.now ++ decimal x) c out.old result out.new }
-{
-    let next = put_word(out, c, word);
-    put_number(out, next, x)
+    // Writes the digits of a number.
+    pub fn push_number(&mut self, x: u64)
+        ensures { self.new ≡ with_more self.old (decimal x) }
+    {
+        let mut digits: Bytes<20> = Bytes::new();
+        digits.push_number(x);
+        self.push(digits.as_slice());
+    }
 }

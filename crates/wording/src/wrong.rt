@@ -1,9 +1,9 @@
-// Which field of a line is the first that is wrong. The fields are looked at from the last to the first.
-ghost use Rattle.std.specs.Prelude.{◌≡◌, cond, ◌≤◌};
+// Which field of a line is the first that is wrong.
+ghost use Rattle.std.specs.Prelude.{◌≡◌, ◌≤◌, length, not, position};
 ghost use Rattle.rules.specs.Lines.{split_on, field};
 ghost use Rattle.rules.specs.Fields.{number_field, list_field};
 ghost use Rattle.text.specs.Text.{kind_of};
-ghost use Rattle.wording.specs.FirstWrong.{is_read, read_number, plan_fields, act_fields, first_wrong};
+ghost use Rattle.wording.specs.FirstWrong.{is_read, read_number, plan_fields, act_fields, first_wrong, field_in};
 
 use line::activity_line::{numbers, settings, windows};
 use line::fields::number_in;
@@ -11,67 +11,90 @@ use text::field::field_at;
 use text::list::{Form, read_list};
 
 // The number from lo to hi that field k of the line l is, or 0.
+#[tactic(auto, unfolding(crate::specs::FirstWrong::read_number, rules::specs::Refusals::read_as))]
 fn number_at(l: &[u8], k: usize, lo: u32, hi: u32) -> u32
     ensures { result ≡ read_number (number_field lo hi (field (split_on 9 l.now) k)) }
 {
-    let n = number_in(field_at(l, k), lo, hi);
-    if n.fault == 0 { n.value } else { 0 }
+    number_in(field_at(l, k), lo, hi).unwrap_or(0)
 }
 
-// The first wrong field from field k on, a number from lo to hi, where `behind` is the first wrong one behind it.
-fn wrong_number(l: &[u8], k: u32, lo: u32, hi: u32, behind: u32) -> u32
-    ensures { result ≡ cond (is_read (number_field lo hi (field (split_on 9 l.now) k))) behind k }
+// Whether field k of the line l is a number from lo to hi.
+#[tactic(auto, unfolding(crate::specs::FirstWrong::is_read, rules::specs::Refusals::read_as))]
+fn is_number(l: &[u8], k: usize, lo: u32, hi: u32) -> bool
+    ensures { result ≡ is_read (number_field lo hi (field (split_on 9 l.now) k)) }
 {
-    let n = number_in(field_at(l, k as usize), lo, hi);
-    if n.fault == 0 { behind } else { k }
+    number_in(field_at(l, k), lo, hi).is_ok()
 }
 
-// The same where field k is a list of this form.
-fn wrong_list(l: &[u8], k: u32, form: Form, behind: u32) -> u32
-    requires { form.most ≤ 32 }
-    ensures { result ≡ cond (is_read (list_field (kind_of form) (field (split_on 9 l.now) k))) behind k }
+// Whether it is a list of this form, of at most N items.
+#[tactic(auto, unfolding(crate::specs::FirstWrong::is_read, rules::specs::Refusals::read_as))]
+fn is_list<const N: usize>(l: &[u8], k: usize, form: Form) -> bool
+    requires { N ≤ 32 }
+    ensures { result ≡ is_read (list_field (kind_of form N) (field (split_on 9 l.now) k)) }
 {
-    let n = read_list(field_at(l, k as usize), form);
-    if n.fault == 0 { behind } else { k }
+    read_list::<N>(field_at(l, k), form).is_ok()
 }
 
-// The first wrong field of a plan's first line, 0 where none is.
-pub fn wrong_in_plan(l: &[u8]) -> u32
-    ensures { result ≡ first_wrong 1 (plan_fields (split_on 9 l.now)) }
+// The index of the first that is not right.
+fn first_not(right: &[bool]) -> Option<usize>
+    ensures { result ≡ position not right.now }
 {
-    let capacity = number_at(l, 3, 1, 1000000000);
+    right.iter().position(|right| !right)
+}
+
+// The number of the first field that is not right, counted from 1.
+#[tactic(auto, using(crate::proofs::FirstWrong::wrong_at))]
+fn first_wrong(right: &[bool]) -> Option<u32>
+    requires { length right.now ≤ 32 }
+    ensures { result ≡ field_in (first_wrong 1 right.now) }
+{
+    let i = first_not(right)?;
+    Some(i as u32 + 1)
+}
+
+// The first wrong field of a plan's first line.
+#[tactic(auto, unfolding(crate::specs::FirstWrong::plan_fields))]
+pub fn wrong_in_plan(l: &[u8]) -> Option<u32>
+    ensures { result ≡ field_in (first_wrong 1 (plan_fields (split_on 9 l.now))) }
+{
+    let capacity = number_at(l, 3, 1, 1_000_000_000);
     let floor = number_at(l, 4, 0, capacity);
-    let from11 = wrong_number(l, 11, 0, 1000000, 0);
-    let from10 = wrong_number(l, 10, 0, 1000000000, from11);
-    let from9 = wrong_number(l, 9, 0, 1000000, from10);
-    let from8 = wrong_number(l, 8, 0, 64, from9);
-    let from7 = wrong_number(l, 7, 0, capacity, from8);
-    let from6 = wrong_number(l, 6, 0, 1000000, from7);
-    let from5 = wrong_number(l, 5, floor, capacity, from6);
-    let from4 = wrong_number(l, 4, 0, capacity, from5);
-    let from3 = wrong_number(l, 3, 1, 1000000000, from4);
-    let from2 = wrong_number(l, 2, 0, 1439, from3);
-    wrong_number(l, 1, 1, 4096, from2)
+    first_wrong(&[
+        is_number(l, 1, 1, 4096),
+        is_number(l, 2, 0, 1439),
+        is_number(l, 3, 1, 1_000_000_000),
+        is_number(l, 4, 0, capacity),
+        is_number(l, 5, floor, capacity),
+        is_number(l, 6, 0, 1_000_000),
+        is_number(l, 7, 0, capacity),
+        is_number(l, 8, 0, 64),
+        is_number(l, 9, 0, 1_000_000),
+        is_number(l, 10, 0, 1_000_000_000),
+        is_number(l, 11, 0, 1_000_000),
+    ])
 }
 
 // The same of an activity's line in a plan of this horizon.
-pub fn wrong_in_act(l: &[u8], horizon: u32) -> u32
-    ensures { result ≡ first_wrong 1 (act_fields horizon (split_on 9 l.now)) }
+#[tactic(auto, using(crate::proofs::FirstWrong::windows_read, crate::proofs::FirstWrong::settings_read, crate::proofs::FirstWrong::numbers_read), unfolding(crate::specs::FirstWrong::act_fields))]
+pub fn wrong_in_act(l: &[u8], horizon: u32) -> Option<u32>
+    ensures { result ≡ field_in (first_wrong 1 (act_fields horizon (split_on 9 l.now))) }
 {
-    let from14 = wrong_number(l, 14, 0, 1, 0);
-    let from13 = wrong_number(l, 13, 0, 1000000000, from14);
-    let from12 = wrong_number(l, 12, 0, 1000000, from13);
-    let from11 = wrong_number(l, 11, 0, 1000000, from12);
-    let from10 = wrong_number(l, 10, 0, 64, from11);
-    let from9 = wrong_list(l, 9, settings(), from10);
-    let from8 = wrong_list(l, 8, settings(), from9);
-    let from7 = wrong_list(l, 7, numbers(31, 32), from8);
-    let from6 = wrong_list(l, 6, numbers(65535, 8), from7);
-    let from5 = wrong_list(l, 5, windows(), from6);
-    let from4 = wrong_number(l, 4, 0, 4095, from5);
-    let from3 = wrong_number(l, 3, 1, horizon, from4);
-    let from2 = wrong_number(l, 2, 0, 65535, from3);
-    wrong_number(l, 1, 0, 65535, from2)
+    first_wrong(&[
+        is_number(l, 1, 0, 65535),
+        is_number(l, 2, 0, 65535),
+        is_number(l, 3, 1, horizon),
+        is_number(l, 4, 0, 4095),
+        is_list::<4>(l, 5, windows()),
+        is_list::<8>(l, 6, numbers(65535)),
+        is_list::<32>(l, 7, numbers(31)),
+        is_list::<4>(l, 8, settings()),
+        is_list::<4>(l, 9, settings()),
+        is_number(l, 10, 0, 64),
+        is_number(l, 11, 0, 1_000_000),
+        is_number(l, 12, 0, 1_000_000),
+        is_number(l, 13, 0, 1_000_000_000),
+        is_number(l, 14, 0, 1),
+    ])
 }
 
 // The horizon that a first line says, or 0.

@@ -1,14 +1,7 @@
--- The loop of `out_of_reach`: c is the charge at tick t with nothing drawn, between 0 and 32 bits.
-use Prim.Native.Nat.{◌-◌, ◌≤◌}
-use mathlib.Core.Path.{◌≡◌}
-use lib.IntN.{pos}
-use lib.Signed.{◌≤ℤ◌}
+-- The loop of `out_of_reach`: the charge is that at the tick with nothing drawn, between 0 and 32 bits.
+use Rattle.std.proofs.Common.{◌≡◌, pos, ◌≤ℤ◌}
 use Rattle.charge.specs.Charge.{charge_by}
 use Rattle.charge.proofs.out_of_reach.Given as goal
 
-abbrev pub invariant-loop-t : goal.invariant-loop-t
-invariant-loop-t l =
-    (l.t ≤ l.header.horizon) × (l.c ≡ charge_by l.header (λ _. 0) l.t) × (pos 0 ≤ℤ l.c) × (l.c ≤ℤ pos 4294967295)
-
-abbrev pub decreases-loop-t : goal.decreases-loop-t
-decreases-loop-t l = l.header.horizon - l.t
+abbrev pub invariant-loop : goal.invariant-loop
+invariant-loop l = (l.charge ≡ charge_by l.header (λ _. 0) l.counter) × (pos 0 ≤ℤ l.charge) × (l.charge ≤ℤ pos 4294967295)

@@ -1,8 +1,10 @@
 -- `mark_engines` meets its contract.
-use Rattle.sets.proofs.Marking.{same_marked}
-use Rattle.load.proofs.Loading.{engines_clear}
+use Rattle.std.proofs.Common.{◌≡◌, ◌∙◌, ap, rules}
+use Rattle.placed.specs.declared.row.Row.{Row}
+use Rattle.placed.specs.Tables.{engines_at}
 use Rattle.load.proofs.mark_engines.Goals as goal
 
 pub returns : goal.returns
-returns c = let a = c.args in
-    same_marked _ _ _ _ _ _ (λ s k. engines_clear _ a.amounts.now a.n _ _ s) c.mark_amounts.ensures
+returns c =
+    rw c.candidate.ensures at
+    (c.mark_load.ensures (engines_at c.args.placed.now.rows) (λ i row w k e q. let own : w ≡ row.now.engines = search rules in own ∙ ap (λ (x : Row). x.engines) e))

@@ -1,15 +1,13 @@
 -- `mark_load` meets its contract.
-use mathlib.Core.Path.{refl}
+use Rattle.std.proofs.Common.{refl}
 use Rattle.rules.proofs.Lists.{zeros}
 use Rattle.sets.proofs.Marking.{same_marked}
 use Rattle.load.proofs.Loading.{clear_same}
 use Rattle.load.proofs.mark_load.Goals as goal
 
-pub fill_loads-requires : goal.fill_loads-requires
-fill_loads-requires c = record {
-  ticks_bounded = c.requires.ticks_bounded;
-  loads_len = (refl, λ t. zeros 4096 t);
-}
+pub fill_loads-requires-clause-loads_len : goal.fill_loads-requires-clause-loads_len
+fill_loads-requires-clause-loads_len g c = (refl, λ t. zeros 4096 t)
 
 pub returns : goal.returns
-returns c = same_marked _ _ _ _ _ _ (λ s k. clear_same _ _ _ _ _ s c.fill_loads.ensures.sum) c.mark_clear.ensures
+returns g c =
+    λ weights h. same_marked _ _ _ _ _ _ (λ s k. clear_same _ _ _ _ _ s (c.fill_loads.ensures weights h).sum) c.mark_clear.ensures

@@ -1,37 +1,28 @@
--- `run_through` meets its contract: c is the charge at tick t.
-use native.Mathlib.Omega.{arith}
-use mathlib.Core.Path.{◌≡◌, sym, ◌∙◌}
-use mir.Syntax.{w64}
-use mir.Facts.{to_z_pos, to_z-of_z}
+-- `run_through` meets its contract: the charge is that at the tick.
+use Rattle.std.proofs.Common.{◌≡◌, sym, ◌∙◌, pos, to_z, of_z, w64, arith}
+use Rattle.std.proofs.lemmas.Int.{ints}
+use Rattle.std.proofs.lemmas.List.{get_or-take, length-take-le}
+use mir.Facts.{to_z-of_z}
 use Rattle.rules.proofs.Signed.{signed}
 use Rattle.charge.specs.Charge.{at_tick, charge_next}
 use Rattle.charge.proofs.Running.{charge_first, charge_next_lem, charge_most}
 use Rattle.charge.proofs.Kept.{kept_charge}
 use Rattle.charge.proofs.run.run_through.Goals as goal
 
-pub loop-t-init : goal.loop-t-init
-loop-t-init c =
+pub loop-draw-init : goal.loop-draw-init
+loop-draw-init c =
     let h = c.args.header in
-    (omega arith, to_z_pos w64 (omega arith) ∙ charge_first h _)
+    let first : to_z w64 (of_z w64 (pos h.first)) ≡ pos h.first = omega (arith, ints) in
+    rw c.from-charge.ensures (first ∙ charge_first h _)
 
-pub bounds-draws-t : goal.bounds-draws-t
-bounds-draws-t c = omega (arith, c.requires.known)
+pub step-charge-requires-clause-charge_bound : goal.step-charge-requires-clause-charge_bound
+step-charge-requires-clause-charge_bound c =
+    let low = kept_charge _ _ c.requires.kept c.loop-draw.draw-index (omega (arith, length-take-le c.args.header.horizon c.args.draws.now c.requires.known)) in
+    let high = charge_most c.args.header (at_tick c.args.draws.now) c.loop-draw.draw-index c.requires.first in
+    (rw c.loop-draw.invariant (omega signed), rw c.loop-draw.invariant (omega signed))
 
-pub step-c-requires : goal.step-c-requires
-step-c-requires c =
-    let low = kept_charge _ _ c.requires.kept c.loop-t.t c.loop-t.invariant.0 in
-    let high = charge_most c.args.header (at_tick c.args.draws.now) c.loop-t.t c.requires.first in
-    record {
-      charge_bound = (rw c.loop-t.invariant.1 (omega signed), rw c.loop-t.invariant.1 (omega signed));
-      draw_bound = omega (arith, c.wide.ensures.1);
-    }
-
-pub loop-t-preserved : goal.loop-t-preserved
-loop-t-preserved c =
+pub loop-draw-preserved : goal.loop-draw-preserved
+loop-draw-preserved c =
     let h = c.args.header in
-    (omega arith, to_z-of_z {w = w64} (record { sfits = c.step-c.type_inv }) ∙ c.step-c.ensures ∙ (λ i. charge_next h.capacity h.rate (c.wide.ensures.0 i) (c.loop-t.invariant.1 i)) ∙ sym (charge_next_lem h _ c.loop-t.t))
-
-pub returns : goal.returns
-returns c =
-    let e : c.loop-t.t ≡ c.args.header.horizon = omega arith in
-    rw e at c.loop-t.invariant.1
+    let draw : c.from.result ≡ at_tick c.args.draws.now c.loop-draw.draw-index = c.from.ensures ∙ get_or-take c.args.header.horizon c.args.draws.now c.loop-draw.draw-index 0 (omega (arith, length-take-le c.args.header.horizon c.args.draws.now c.requires.known)) in
+    to_z-of_z {w = w64} (record { sfits = c.step-charge.type_inv }) ∙ c.step-charge.ensures ∙ (λ i. charge_next h.capacity h.rate (draw i) (c.loop-draw.invariant i)) ∙ sym (charge_next_lem h _ c.loop-draw.draw-index)

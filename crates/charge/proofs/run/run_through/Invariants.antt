@@ -1,11 +1,7 @@
--- The loop of `run_through`: c is the charge at tick t.
-use Prim.Native.Nat.{◌-◌, ◌≤◌}
-use mathlib.Core.Path.{◌≡◌}
+-- The loop of `run_through`: the charge is that at the tick.
+use Rattle.std.proofs.Common.{◌≡◌}
 use Rattle.charge.specs.Charge.{at_tick, charge_by}
 use Rattle.charge.proofs.run.run_through.Given as goal
 
-abbrev pub invariant-loop-t : goal.invariant-loop-t
-invariant-loop-t l = (l.t ≤ l.header.horizon) × (l.c ≡ charge_by l.header (at_tick l.draws) l.t)
-
-abbrev pub decreases-loop-t : goal.decreases-loop-t
-decreases-loop-t l = l.header.horizon - l.t
+abbrev pub invariant-loop-draw : goal.invariant-loop-draw
+invariant-loop-draw l = l.charge ≡ charge_by l.header (at_tick l.draws) l.draw-index

@@ -1,20 +1,24 @@
--- `ready_from` meets its contract: the invariant is the definition at the ids passed.
-use Prim.Native.Nat.{max}
-use mathlib.Core.Path.{◌≡◌, sym, ◌∙◌}
-use native.Mathlib.Omega.{arith}
-use Rattle.direct.proofs.Ended.{ready_more, ready_none}
+-- `ready_from` meets its contract.
+use Rattle.std.proofs.Common.{◌≤◌, arith, map, length, refl, length-take, ap}
+use Rattle.activity.specs.View.{number_of}
+use Rattle.direct.proofs.Ended.{ready_by, ready_more, ready_none, ready_never}
 use Rattle.direct.proofs.after.ready_from.Goals as goal
 
-pub loop-i-init : goal.loop-i-init
-loop-i-init c = (omega arith, sym (ready_none _ _ _))
+pub loop-id-init : goal.loop-id-init
+loop-id-init c = rw ready_none refl
 
-pub first_end-requires : goal.first_end-requires
-first_end-requires c = c.requires.0
+pub returns-in_err-first_end : goal.returns-in_err-first_end
+returns-in_err-first_end c =
+    let rows = c.args.placed.now.rows in
+    let n = c.args.placed.now.count in
+    let long : n ≤ length rows = omega (arith, ap length c.entries.ensures.value, length-take n rows, c.entries.ensures.size) in
+    let late = ready_by rows _ n c.args.after.now c.loop-id.id-index _ c.entries.ensures.value long c.loop-id-test.true c.in_err-first_end.ensures in
+    rw c.from_residual.ensures (ready_never rows n (map number_of c.args.after.now) _ c.loop-id.id-index c.loop-id-test.true late)
 
-pub loop-i-preserved : goal.loop-i-preserved
-loop-i-preserved c =
-    let ready = c.loop-i.invariant.1 in
-    (omega arith, c.larger-ready.ensures ∙ (λ i. max (c.first_end.ensures i) (ready i)) ∙ sym (ready_more _ _ _ _))
-
-pub returns : goal.returns
-returns c = let e : c.args.count ≡ c.loop-i.i = omega arith in rw e c.loop-i.invariant.1
+pub loop-id-preserved : goal.loop-id-preserved
+loop-id-preserved c =
+    let rows = c.args.placed.now.rows in
+    let n = c.args.placed.now.count in
+    let long : n ≤ length rows = omega (arith, ap length c.entries.ensures.value, length-take n rows, c.entries.ensures.size) in
+    let end = ready_by rows _ n c.args.after.now c.loop-id.id-index _ c.entries.ensures.value long c.loop-id-test.true c.in_ok-first_end.ensures in
+    rw ready_more (omega (arith, end))

@@ -1,11 +1,9 @@
--- The loop of `ready_from`: the invariant is the definition at the ids passed.
-use Prim.Native.Nat.{◌-◌, ◌≤◌}
-use mathlib.Core.Path.{◌≡◌}
+-- The loop of `ready_from`: the definition at the ids passed, as far as it is no later than any end.
+use Rattle.std.proofs.Common.{◌≡◌, min, map}
+use Rattle.activity.specs.View.{number_of}
+use Rattle.placed.specs.Bounds.{never}
 use Rattle.direct.specs.Ended.{ready_from}
 use Rattle.direct.proofs.after.ready_from.Given as goal
 
-abbrev pub invariant-loop-i : goal.invariant-loop-i
-invariant-loop-i l = (l.i ≤ l.count) × (l.ready ≡ ready_from l.ticks l.n l.after l.i)
-
-abbrev pub decreases-loop-i : goal.decreases-loop-i
-decreases-loop-i l = l.count - l.i
+abbrev pub invariant-loop-id : goal.invariant-loop-id
+invariant-loop-id l = min l.ready never ≡ min (ready_from l.placed.rows l.placed.count (map number_of l.after) l.id-index) never

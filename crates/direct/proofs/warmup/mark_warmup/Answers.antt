@@ -1,21 +1,7 @@
--- `mark_warmup` meets its contract: the invariant is the mark up to the start passed.
-use mathlib.Core.Path.{◌≡◌}
-use native.Mathlib.Omega.{arith}
-use Rattle.sets.proofs.Marking.{none_marked, marked_more, markable_at}
+-- `mark_warmup` meets its contract.
+use Rattle.std.proofs.Common.{rules, leb}
+use Rattle.rules.specs.Warmup.{warmup_at}
 use Rattle.direct.proofs.warmup.mark_warmup.Goals as goal
 
-pub loop-s-init : goal.loop-s-init
-loop-s-init c = (omega arith, none_marked _ _ _)
-
-pub raise-requires : goal.raise-requires
-raise-requires c = markable_at _ _ _ _ _ _ c.loop-s-test.true c.requires c.loop-s.invariant.1
-
-pub loop-s-preserved : goal.loop-s-preserved
-loop-s-preserved c =
-    (omega arith, marked_more _ _ _ _ _ _ _ (omega (arith, c.requires.long)) c.loop-s.invariant.1 c.raise.ensures c.warmed.ensures)
-
-pub shape_of-table : goal.shape_of-table
-shape_of-table c = c.loop-s.invariant.1.size
-
 pub returns : goal.returns
-returns c = let e : c.args.count ≡ c.loop-s.s = omega arith in rw e c.loop-s.invariant.1
+returns c = c.mark_where.ensures (λ s. leb (warmup_at c.args.minute s c.args.warm) s) (λ s met k q. search rules)

@@ -1,13 +1,8 @@
--- The loop of `put_each_run`: the runs passed are written.
-use Prim.Native.Nat.{◌-◌}
-use mathlib.Core.Path.{◌≡◌}
-use lib.ListN.{length}
-use Rattle.schedule.specs.Search.{meets_in}
-use Rattle.explanation.proofs.RunTexts.{Before}
+-- What is written and the runs that are left make the text.
+use Rattle.std.proofs.Common.{◌≡◌}
+use Rattle.explanation.specs.Places.{run_texts}
+use Rattle.wording.specs.Writing.{with_more}
 use Rattle.explanation.proofs.runs.put_each_run.Given as goal
 
-abbrev pub invariant-loop-next : goal.invariant-loop-next
-invariant-loop-next l = (length l.out ≡ length l.initial.out) × Before (meets_in l.table l.set) l.count l.s l.initial.next l.initial.out l.next l.out
-
-abbrev pub decreases-loop-next : goal.decreases-loop-next
-decreases-loop-next l = l.count - l.s
+abbrev pub invariant-loop-run : goal.invariant-loop-run
+invariant-loop-run l = with_more l.out (run_texts l.run-iterator) ≡ with_more l.initial.out (run_texts l.initial.run-iterator)

@@ -1,31 +1,18 @@
--- `field::field_at` meets its contract: at the loop's head, the fields from number j on are those of the rest of the line.
-use mathlib.Core.Path.{◌≡◌, refl, ◌∙◌, sym}
-use Prim.Native.Nat.{◌-◌}
-use native.Mathlib.Omega.{arith}
+-- `field::field_at` meets its contract.
+use Rattle.std.proofs.Common.{rules, ◌≡◌, ◌∙◌, refl, ap, [], List, ℕ, Option, Some, None, Bor}
+use Rattle.std.specs.Option.{option_map, unwrap_or}
+use Rattle.std.proofs.lemmas.Option.{unwrap_or-slice_get}
+use Rattle.std.proofs.lemmas.Iterator.Consumers.{nth_from_yields_List}
 use Rattle.rules.specs.Lines.{split_on}
-use Rattle.text.proofs.Parts.{cut, parts_more, parts_last, part_at, parts_after_lem, part_none}
+use Rattle.text.proofs.Splits.{yields_parts}
 use Rattle.text.proofs.field.field_at.Goals as goal
 
-pub loop-j-init : goal.loop-j-init
-loop-j-init c = (omega arith, omega arith, refl)
+read_or : (r : Option (Bor (List ℕ))) (d : Bor (List ℕ)) → (unwrap_or r d).now ≡ unwrap_or (option_map (λ x. x.now) r) d.now
+read_or None d = refl
+read_or (Some x) d = refl
 
-pub returns-then-j-k : goal.returns-then-j-k
-returns-then-j-k c =
-    let a = c.args in
-    rw (← c.if-j-k.true)
-    (sym (part_at (split_on 9 a.s.now) c.loop-j.j _ _ (c.loop-j.invariant.2 ∙ cut 9 a.s.now c.loop-j.at c.find-end.result c.loop-j.invariant.0 c.find-end.ensures.value)))
-
-pub returns-then-end-s : goal.returns-then-end-s
-returns-then-end-s c =
-    let a = c.args in
-    let none : c.find-end.result - c.find-end.result ≡ 0 = omega arith in
-    rw none
-    (sym (part_none (split_on 9 a.s.now) c.loop-j.j a.k _ (c.loop-j.invariant.2 ∙ parts_last 9 a.s.now c.loop-j.at c.find-end.result c.loop-j.invariant.0 c.find-end.ensures.value (omega arith)) (omega (arith, c.if-j-k.false))))
-
-pub loop-j-preserved : goal.loop-j-preserved
-loop-j-preserved c =
-    let a = c.args in (
-      omega arith,
-      omega (arith, c.if-j-k.false),
-      parts_after_lem (split_on 9 a.s.now) c.loop-j.j _ _ (c.loop-j.invariant.2 ∙ parts_more 9 a.s.now c.loop-j.at c.find-end.result c.loop-j.invariant.0 c.find-end.ensures.value (omega arith)),
-    )
+pub returns : goal.returns
+returns c =
+    let all = split_on 9 c.args.s.now in
+    let e = nth_from_yields_List _ _ c.args.k c.nth.ensures.ran (yields_parts _ 9 c.args.s.now c.split.ensures.rest c.split.ensures.done c.split.ensures.closure (λ x b q k. search rules)) in
+    ap (λ r. r.now) c.unwrap_or.ensures ∙ read_or c.nth.result _ ∙ ap (λ o. unwrap_or o []) e ∙ unwrap_or-slice_get all c.args.k []

@@ -1,16 +1,9 @@
 -- `field::field_count` meets its contract.
-use mathlib.Core.Path.{ap}
-use native.Mathlib.Omega.{arith}
-use lib.ListN.{length}
-use Rattle.text.proofs.Parts.{parts_more, parts_last}
+use Rattle.std.proofs.Common.{rules}
+use Rattle.std.proofs.lemmas.Iterator.Consumers.{count_from_yields_List}
+use Rattle.text.proofs.Splits.{yields_parts}
 use Rattle.text.proofs.field.field_count.Goals as goal
 
-pub returns-then-end-s : goal.returns-then-end-s
-returns-then-end-s c =
-    let s = c.args.s.now in
-    omega (arith, ap length (parts_last 9 s c.loop-n.at c.find-end.result c.loop-n.invariant.0 c.find-end.ensures.value (omega arith)))
-
-pub loop-n-preserved : goal.loop-n-preserved
-loop-n-preserved c =
-    let s = c.args.s.now in
-    omega (arith, ap length (parts_more 9 s c.loop-n.at c.find-end.result c.loop-n.invariant.0 c.find-end.ensures.value (omega arith)))
+pub returns : goal.returns
+returns c =
+    count_from_yields_List _ _ c.count.ensures.ran (yields_parts _ 9 c.args.s.now c.split.ensures.rest c.split.ensures.done c.split.ensures.closure (λ x b q k. search rules))

@@ -1,20 +1,19 @@
 -- `list::read_item` meets its contract.
-use mathlib.Core.Path.{sym, ◌∙◌}
-use borrow.Author.Tests.{eq-eqb, ne_eqb}
-use Rattle.text.specs.Text.{is_item, item_of, pair_is, item_is}
+use Rattle.std.proofs.Common.{sym, refl}
+use Rattle.text.specs.Text.{item_is, is_item, item_of, pair_is}
 use Rattle.text.proofs.Digits.{number_bad, number_good}
 use Rattle.text.proofs.list.read_item.Goals as goal
 
-pub returns-in_default : goal.returns-in_default
+pub returns-in_err-v-in-None : goal.returns-in_err-v-in-None
 unfolding item_is is_item
-returns-in_default c = rw (eq-eqb _ _ c.if-mark-eq0.true, number_bad _ (sym c.read_number.ensures ∙ c.in_default.is))
+returns-in_err-v-in-None c = rw (c.from_residual.ensures, c.in-None.is, number_bad _ (sym c.in_err-v-in-None.ensures)) refl
 
-pub returns-then-mark-eq0 : goal.returns-then-mark-eq0
+pub returns-in_ok-v-in-None : goal.returns-in_ok-v-in-None
 unfolding item_is is_item item_of
-returns-then-mark-eq0 c =
-    let g = number_good _ _ (sym c.read_number.ensures ∙ c.in-Value.is) in
-    rw (eq-eqb _ _ c.if-mark-eq0.true, g.0, g.1)
+returns-in_ok-v-in-None c =
+    let g = number_good _ _ (sym c.in_ok-v-in-None.ensures) in
+    rw (c.in-None.is, g.0, g.1) refl
 
-pub returns : goal.returns
+pub returns-in-Some : goal.returns-in-Some
 unfolding item_is is_item item_of pair_is
-returns c = rw (ne_eqb _ _ c.if-mark-eq0.false) c.read_pair.ensures
+returns-in-Some c = rw c.in-Some.is c.read_pair.ensures

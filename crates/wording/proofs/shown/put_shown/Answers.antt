@@ -1,23 +1,15 @@
--- `put_shown` meets its contract: the bytes passed are shown.
-use mathlib.Core.Path.{refl, ap}
-use native.Mathlib.Numerals.{add-one}
-use native.Mathlib.Omega.{arith}
-use lib.Seq.{take-suc, take_all}
+-- One byte more is shown.
+use Rattle.std.proofs.Common.{sym, ◌∙◌, ap}
 use Rattle.wording.specs.Shown.{shown}
-use Rattle.wording.proofs.Escapes.{shown_more}
-use Rattle.wording.proofs.Pieces.{wrote_none, wrote_then, wrote_as}
+use Rattle.wording.specs.Writing.{with_more}
+use Rattle.wording.proofs.Escapes.{shown_next}
+use Rattle.wording.proofs.Pieces.{more_none, more_then}
 use Rattle.wording.proofs.shown.put_shown.Goals as goal
 
-pub loop-i-init : goal.loop-i-init
+pub loop-b-init : goal.loop-b-init
 unfolding shown
-loop-i-init c = (omega arith, refl, wrote_none _ _)
+loop-b-init c = sym (more_none c.args.out.now)
 
-pub loop-i-preserved : goal.loop-i-preserved
-loop-i-preserved c =
-    let s = c.args.s.now in
-    (omega arith, omega arith, rw (add-one, take-suc s c.loop-i.i 0 (omega arith), shown_more) (wrote_then c.loop-i.invariant.2 c.put_shown_byte-next.ensures))
-
-pub returns : goal.returns
-returns c =
-    let s = c.args.s.now in
-    wrote_as (ap shown (take_all c.loop-i.i s (omega arith))) c.loop-i.invariant.2
+pub loop-b-preserved : goal.loop-b-preserved
+loop-b-preserved c =
+    c.put_shown_byte.ensures ∙ rw c.loop-b.invariant (more_then c.args.out.now _ _) ∙ ap (with_more c.args.out.now) (sym (shown_next c.args.s.now c.loop-b.b-index c.loop-b-test.true))

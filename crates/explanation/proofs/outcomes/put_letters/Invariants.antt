@@ -1,0 +1,9 @@
+-- The conditions gone through are written.
+use Rattle.std.proofs.Common.{◌≡◌}
+use Rattle.explanation.specs.Places.{letter_texts}
+use Rattle.explanation.specs.Tabled.{runs_in}
+use Rattle.wording.specs.Writing.{with_more}
+use Rattle.explanation.proofs.outcomes.put_letters.Given as goal
+
+abbrev pub invariant-loop-condition : goal.invariant-loop-condition
+invariant-loop-condition l = l.out ≡ with_more l.initial.out (letter_texts (runs_in l.sets) l.set l.condition)
