@@ -36,7 +36,7 @@ fn read_line(s: &[u8], at: usize, end: usize, header: Header, lines: &Lines) -> 
     if MOST_LINES <= lines.len() {
         return Err(Fault::TooMany);
     }
-    let activity = read_activity(line, header)?;
+    let activity = read_activity(line, &header)?;
     if says_id(lines.as_slice(), activity.id) {
         return Err(Fault::Repeated);
     }
