@@ -1,5 +1,5 @@
 -- `list::Tally::count_in` meets its contract: each arm is one law.
-use Rattle.std.proofs.Common.{◌≡◌, true, arith, add-one}
+use Rattle.std.proofs.Common.{◌≡◌, true, arith}
 use Rattle.text.specs.Text.{item_of, kind_of}
 use Rattle.text.proofs.Items.{from_outside, from_back, from_turned, from_full, from_good, inside, outside_first, outside_second}
 use Rattle.text.proofs.list.Tally.count_in.Goals as goal
@@ -40,4 +40,4 @@ returns g c = λ p ps e i.
     let k = kind_of f g.row.N in
     let in_range : k.in_range (item_of f.mark p) ≡ true = rw i (inside f g.row.N a b (omega arith) (omega arith)) in
     let high : c.if-form.high ≡ k.high (item_of f.mark p) = rw i (elim c.if-form.branch [ then-form w ↦ rw w.if-form.true w.high-is | else-form w ↦ rw w.if-form.false w.high-is ]) in
-    rw (c.push.ensures, add-one, high, ← i) (from_good k _ _ _ p ps e in_range (rw i (omega arith)) (rw (← high, i) (omega arith)))
+    rw (c.push.ensures, high, ← i) (from_good k _ _ _ p ps e in_range (rw i (omega arith)) (rw (← high, i) (omega arith)))
