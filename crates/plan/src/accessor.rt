@@ -24,7 +24,7 @@ pub fn activity_in(s: &[u8], at: u16, header: Header) -> Activity
     requires { LineSays (header_view header) s.now at }
     ensures { activity_view result ≡ activity_in (header_view header) s.now at }
 {
-    read_activity(line_at(s, usize::from(at)), header).unwrap()
+    read_activity(line_at(s, usize::from(at)), &header).unwrap()
 }
 
 impl Plan<'_> {
