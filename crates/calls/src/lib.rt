@@ -1,108 +1,74 @@
 #![tactic(auto)]
 // The planner's calls on a plan's bytes (document 01, Calls), for Rattle programs.
-ghost use Rattle.std.specs.Prelude.{◌≡◌, ◌<◌, ◌≤◌, min, length, take};
-ghost use Rattle.rules.specs.Calls.{count_terms, refusal, filling, runs};
+ghost use Rattle.std.specs.Prelude.{◌≡◌, ◌<◌, ◌≤◌, min, length};
+ghost use Rattle.rules.specs.Calls.{filling, runs};
 ghost use Rattle.plan.specs.View.{plan_view};
-ghost use Rattle.rules.specs.Runs.{runs_from};
-ghost use Rattle.placing.specs.Places.{Placeable};
-ghost use Rattle.schedule.specs.Search.{meets_in};
 ghost use Rattle.calls.specs.Called.{OutcomeCalled, SliceFilled, ReportCalled, ColumnsFilled, StartsCalled, OutputCalled};
 
 use plan::Plan;
-pub use report::whole::REPORT;
-use rules::{ALL_CONDITIONS, CountAnswer, OutcomeAnswer, Refusal, TICKS};
+use report::lines::Report;
+use report::whole::{no_line_of, report_of};
+use rules::{ALL_CONDITIONS, Fault, Outcome, Refusal, TICKS};
+use schedule::runs::{count_runs, write_runs};
 
-// A refusal in place of a count.
-fn refuse(number: u32, line: u32) -> CountAnswer
-    ensures { count_terms result ≡ refusal number line }
+// The refusal of a call, which is no line's.
+fn refused(fault: Fault) -> Refusal
+    ensures { result ≡ record { fault = fault; line = 0 } }
 {
-    CountAnswer::No(Refusal { number, line })
+    Refusal { fault, line: 0 }
 }
 
 // The outcome of the activity at a place: placed with its start, or refused with its letters.
-pub fn outcome(bytes: &[u8], place: usize) -> OutcomeAnswer
+pub fn outcome(bytes: &[u8], place: usize) -> Result<Outcome, Refusal>
     ensures { OutcomeCalled bytes.now place result }
 {
-    let reading = plan::read(bytes);
-    if reading.number != 0 {
-        let refusal = Refusal {
-            number: reading.number,
-            line: reading.line,
-        };
-        return OutcomeAnswer::No(refusal);
+    let plan = plan::read(bytes)?;
+    if plan.count() <= place {
+        return Err(refused(Fault::NoPlace));
     }
-    let plan = reading.plan;
-    if plan.count <= place {
-        return OutcomeAnswer::No(Refusal {
-            number: 11,
-            line: 0,
-        });
-    }
-    OutcomeAnswer::Answer(placing::outcome_at(bytes, plan, place))
+    Ok(placing::outcome_at(&plan, place))
 }
 
 // Copies a text to the front of a slice and answers its length; a slice too short for it remains.
-fn hand_over(text: &[u8], out: &mut [u8]) -> CountAnswer
+fn hand_over(text: &[u8], out: &mut [u8]) -> Result<usize, Refusal>
     ensures { SliceFilled (filling (length out.old) text.now) out.old result out.new }
 {
-    if out.len() < text.len() {
-        return refuse(10, 0);
+    let length = text.len();
+    if out.len() < length {
+        return Err(refused(Fault::NoRoom));
     }
-    text::word::put_bytes(out, 0, text);
-    CountAnswer::Count(text.len())
+    out[..length].copy_from_slice(text);
+    Ok(length)
 }
 
 // The report, written to the front of `out`; answers its length.
-pub fn report(bytes: &[u8], out: &mut [u8]) -> CountAnswer
+pub fn report(bytes: &[u8], out: &mut [u8]) -> Result<usize, Refusal>
     ensures { ReportCalled bytes.now out.old result out.new }
 {
-    let reading = plan::read(bytes);
-    if reading.number != 0 {
-        return refuse(reading.number, reading.line);
-    }
-    let mut written = [0u8; REPORT];
-    let length = report::whole::put_report(bytes, reading.plan, &mut written);
-    hand_over(&written[..length], out)
-}
-
-// Writes the runs of starts of a table that meet a set of conditions, and answers their count.
-fn write_runs(
-    table: &[u16; TICKS],
-    count: u32,
-    set: u16,
-    firsts: &mut [u32],
-    lasts: &mut [u32],
-) -> CountAnswer
-    requires { count ≤ 4096 }
-    ensures { ColumnsFilled (filling (min (length firsts.old) (length lasts.old)) (runs_from (meets_in table.now set) 0 count)) firsts.old lasts.old result firsts.new lasts.new }
-{
-    let runs = schedule::runs::count_runs(table, count, set);
-    if firsts.len() < runs {
-        return refuse(10, 0);
-    }
-    if lasts.len() < runs {
-        return refuse(10, 0);
-    }
-    schedule::runs::write_column(table, count, set, runs, true, firsts);
-    schedule::runs::write_column(table, count, set, runs, false, lasts);
-    CountAnswer::Count(runs)
+    let plan = plan::read(bytes)?;
+    hand_over(report_of(&plan).as_slice(), out)
 }
 
 // Writes the runs of starts at a place that meet a set of conditions, and answers their count.
 fn runs_at(
-    bytes: &[u8],
-    plan: Plan,
+    plan: &Plan,
     place: usize,
     set: u16,
     firsts: &mut [u32],
     lasts: &mut [u32],
-) -> CountAnswer
-    requires { Placeable bytes.now plan × (place < plan.count) }
-    ensures { ColumnsFilled (filling (min (length firsts.old) (length lasts.old)) (runs (plan_view bytes.now plan) place set)) firsts.old lasts.old result firsts.new lasts.new }
+) -> Result<usize, Refusal>
+    requires { place < length (plan_view plan.now).activities }
+    ensures { ColumnsFilled (filling (min (length firsts.old) (length lasts.old)) (runs (plan_view plan.now) place set)) firsts.old lasts.old result firsts.new lasts.new }
 {
-    let mut table = [0u16; TICKS];
-    let count = placing::fill_at(bytes, plan, place, &mut table);
-    write_runs(&table, count, set, firsts, lasts)
+    let mut table = [0; TICKS];
+    let count = placing::fill_at(plan, place, &mut table);
+    let sets = &table[..count as usize];
+    let runs = count_runs(sets, set);
+    if firsts.len().min(lasts.len()) < runs {
+        return Err(refused(Fault::NoRoom));
+    }
+    write_runs(sets, set, firsts, lasts);
+    Ok(runs)
 }
 
 // The runs of starts of the activity at a place that meet a set of conditions: the first start of each is written to
@@ -113,33 +79,25 @@ pub fn starts(
     set: u32,
     firsts: &mut [u32],
     lasts: &mut [u32],
-) -> CountAnswer
+) -> Result<usize, Refusal>
     ensures { StartsCalled bytes.now place set firsts.old lasts.old result firsts.new lasts.new }
 {
-    let reading = plan::read(bytes);
-    if reading.number != 0 {
-        return refuse(reading.number, reading.line);
+    let plan = plan::read(bytes)?;
+    if plan.count() <= place {
+        return Err(refused(Fault::NoPlace));
     }
-    let plan = reading.plan;
-    let count = plan.count;
-    if count <= place {
-        return refuse(11, 0);
+    if u32::from(ALL_CONDITIONS) < set {
+        return Err(refused(Fault::NoSet));
     }
-    if (ALL_CONDITIONS as u32) < set {
-        return refuse(12, 0);
-    }
-    runs_at(bytes, plan, place, set as u16, firsts, lasts)
+    runs_at(&plan, place, set as u16, firsts, lasts)
 }
 
-// What the program prints, the report or the `no` line, written to the front of `out`; answers its length.
-pub fn output(bytes: &[u8], out: &mut [u8; REPORT]) -> usize
-    ensures output_called { OutputCalled bytes.now out.old result out.new }
-    // so that a caller can lend the front of `out`
-    ensures lendable { (result ≤ length out.new) × (result ≡ length (take result out.new)) }
+// What the program prints: the report, or the `no` line.
+pub fn output(bytes: &[u8]) -> Report
+    ensures { OutputCalled bytes.now result }
 {
-    let reading = plan::read(bytes);
-    if reading.number != 0 {
-        return report::lines::put_no(out, 0, reading.number as u64, reading.line as u64);
+    match plan::read(bytes) {
+        Ok(plan) => report_of(&plan),
+        Err(refused) => no_line_of(refused),
     }
-    report::whole::put_report(bytes, reading.plan, out)
 }

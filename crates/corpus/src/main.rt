@@ -11,7 +11,7 @@ use input::{read_input, trouble};
 use std::io;
 use std::process::ExitCode;
 use text::field::{field_at, find};
-use text::number::{Number, read_number};
+use text::number::read_number;
 
 // The first line of a record: how long the plan is, the places asked (from `first` to before `last`), how many sets.
 #[derive(Clone, Copy)]
@@ -24,10 +24,7 @@ struct Asked {
 
 // The number in field k of a line; 0 where there is none.
 fn number_in(line: &[u8], k: usize) -> u64 {
-    let Number::Value(n) = read_number(field_at(line, k)) else {
-        return 0;
-    };
-    n
+    read_number(field_at(line, k)).unwrap_or(0)
 }
 
 // What a record's first line asks.
@@ -47,10 +44,10 @@ fn answer_place(rt: &impl Print, plan: &[u8], place: usize, sets: u64) -> io::Re
     starts::answer_short(rt, plan, place)
 }
 
-// Prints them for each place from `first` to before `last`.
-fn answer_places(rt: &impl Print, plan: &[u8], first: u64, last: u64, sets: u64) -> io::Result<()> {
-    for place in first..last {
-        answer_place(rt, plan, place as usize, sets)?;
+// Prints them for each place asked.
+fn answer_places(rt: &impl Print, plan: &[u8], asked: Asked) -> io::Result<()> {
+    for place in asked.first..asked.last {
+        answer_place(rt, plan, place as usize, asked.sets)?;
     }
     Ok(())
 }
@@ -62,29 +59,28 @@ fn answer_record(rt: &impl Print, s: &[u8], at: usize) -> io::Result<usize>
 {
     let end = find(s, at, b'\n');
     if end == s.len() {
-        answer::wrong(rt, b"a record without a first line")?;
+        answer::wrong(rt, "a record without a first line")?;
         return Ok(end);
     }
     let asked = asked_in(&s[at..end]);
     let from = end + 1;
     if ((s.len() - from) as u64) < asked.length {
-        answer::wrong(rt, b"a record that is cut off")?;
+        answer::wrong(rt, "a record that is cut off")?;
         return Ok(s.len());
     }
     let to = from + asked.length as usize;
-    reports::answer_reports(rt, &s[from..to])?;
-    answer_places(rt, &s[from..to], asked.first, asked.last, asked.sets)?;
+    let plan = &s[from..to];
+    reports::answer_reports(rt, plan)?;
+    answer_places(rt, plan, asked)?;
     Ok(to)
 }
 
 // Prints the answers to each record of s.
 fn answer_records(rt: &impl Print, s: &[u8]) -> io::Result<()> {
     let mut at = 0;
-    let mut number = 0;
+    let mut number = 0u64;
     while at < s.len() {
-        answer::put_word(rt, b"plan")?;
-        answer::put(rt, number)?;
-        answer::end_line(rt)?;
+        println!(rt; "plan\t{number}")?;
         at = answer_record(rt, s, at)?;
         number += 1;
     }
@@ -93,11 +89,9 @@ fn answer_records(rt: &impl Print, s: &[u8]) -> io::Result<()> {
 
 fn main(rt: HostRuntime) -> ExitCode {
     let mut space = [0u8; 262144];
-    let input = read_input(&mut rt.stdin(), &mut space);
-    if input.failed {
+    let Ok(n) = read_input(&mut rt.stdin(), &mut space) else {
         return trouble(&rt, "corpus: standard input cannot be read");
-    }
-    let n = input.count;
+    };
     if answer_records(&rt, &space[..n]).is_err() {
         return trouble(&rt, "corpus: standard output cannot be written");
     }

@@ -1,138 +1,93 @@
 // What the planner prints for a plan, and the calls of report.
+ghost use Rattle.std.specs.Prelude.{◌≤◌, length};
+
 use super::answer;
-use calls::REPORT;
-use rules::CountAnswer;
+use report::lines::REPORT;
+use rules::{Fault, Refusal};
 use std::io;
 
 // What a lent byte holds before a call; no report has it.
 const MARK: u8 = b'#';
 
 // Whether every byte from `from` on is as it was lent.
-fn left_from(out: &[u8; REPORT], from: usize) -> bool {
-    let mut i = from;
-    while i < REPORT {
-        if out[i] != MARK {
-            return false;
-        }
-        i += 1;
-    }
-    true
-}
-
-// Whether two reports have the same first n bytes.
-fn same_to<'a>(one: &'a [u8; REPORT], other: &'a [u8; REPORT], n: usize) -> bool {
-    let mut i = 0;
-    while i < n {
-        if REPORT <= i {
-            return false;
-        }
-        if one[i] != other[i] {
-            return false;
-        }
-        i += 1;
-    }
-    true
-}
-
-// Prints the first n bytes.
-fn put_printed(rt: &impl Print, out: [u8; REPORT], n: usize) -> io::Result<()> {
-    if REPORT < n {
-        return answer::wrong(rt, b"the length of what is printed");
-    }
-    answer::put_word(rt, &out[0..n])
+fn left_from(out: &[u8], from: usize) -> bool {
+    out.iter().skip(from).all(|byte| *byte == MARK)
 }
 
 // Checks that a refused report leaves the lent bytes.
-fn check_left(rt: &impl Print, out: &[u8; REPORT]) -> io::Result<()> {
-    if !left_from(out, 0) {
-        answer::wrong(rt, b"the bytes of a refused report")?;
+fn check_left(rt: &impl Print, out: &[u8]) -> io::Result<()> {
+    if left_from(out, 0) {
+        return Ok(());
     }
-    Ok(())
+    answer::wrong(rt, "the bytes of a refused report")
 }
 
-// Checks a report of n bytes against what is printed, and that it leaves the bytes behind them.
-fn check_written<'a>(
-    rt: &impl Print,
-    out: &'a [u8; REPORT],
-    printed: &'a [u8; REPORT],
-    n: usize,
-) -> io::Result<()> {
-    if !same_to(out, printed, n) {
-        answer::wrong(rt, b"the report is not what is printed")?;
+// Checks that the printed report stands at the front of the lent bytes, and nothing behind it.
+fn check_written(rt: &impl Print, out: &[u8], printed: &[u8]) -> io::Result<()> {
+    if !out.starts_with(printed) {
+        answer::wrong(rt, "the report is not what is printed")?;
     }
-    if !left_from(out, n) {
-        answer::wrong(rt, b"the bytes behind the report")?;
+    if !left_from(out, printed.len()) {
+        answer::wrong(rt, "the bytes behind the report")?;
     }
     Ok(())
 }
 
 // Checks the report into fewer bytes than it has.
-fn check_short(rt: &impl Print, plan: &[u8], room: usize) -> io::Result<()> {
-    if REPORT < room {
-        return Ok(());
-    }
+fn check_short(rt: &impl Print, plan: &[u8], room: usize) -> io::Result<()>
+    requires { room ≤ REPORT }
+{
     let mut out = [MARK; REPORT];
-    let answer = calls::report(plan, &mut out[0..room]);
-    if answer::number_of(answer) != 10 {
-        answer::wrong(rt, b"the refusal of a report")?;
+    let answer = calls::report(plan, &mut out[..room]);
+    if !matches!(answer, Err(Refusal { fault: Fault::NoRoom, .. })) {
+        answer::wrong(rt, "the refusal of a report")?;
     }
     check_left(rt, &out)
 }
 
 // Checks the report into as many bytes as it has.
-fn check_exact(rt: &impl Print, plan: &[u8], printed: &[u8; REPORT], n: usize) -> io::Result<()> {
-    if REPORT < n {
-        return Ok(());
-    }
+fn check_exact(rt: &impl Print, plan: &[u8], printed: &[u8]) -> io::Result<()>
+    requires { length printed.now ≤ REPORT }
+{
     let mut out = [MARK; REPORT];
-    let answer = calls::report(plan, &mut out[0..n]);
-    if answer::count_of(answer) != n {
-        answer::wrong(rt, b"the length of a report that just fits")?;
+    let answer = calls::report(plan, &mut out[..printed.len()]);
+    if answer.unwrap_or(0) != printed.len() {
+        answer::wrong(rt, "the length of a report that just fits")?;
     }
-    check_written(rt, &out, printed, n)
+    check_written(rt, &out, printed)
 }
 
 // Checks the report into more bytes than it has.
-fn check_report(
-    rt: &impl Print,
-    plan: &[u8],
-    printed: &[u8; REPORT],
-    length: usize,
-) -> io::Result<()> {
+fn check_report(rt: &impl Print, plan: &[u8], printed: &[u8]) -> io::Result<()>
+    requires { length printed.now ≤ REPORT }
+{
     let mut out = [MARK; REPORT];
-    let answer = calls::report(plan, &mut out);
-    let CountAnswer::Count(n) = answer else {
+    let Ok(length) = calls::report(plan, &mut out) else {
         return check_left(rt, &out);
     };
-    if n != length {
-        answer::wrong(rt, b"the report's length")?;
+    if length != printed.len() {
+        answer::wrong(rt, "the report's length")?;
     }
-    check_written(rt, &out, printed, n)?;
-    check_exact(rt, plan, printed, n)?;
-    if 0 < n {
-        check_short(rt, plan, n - 1)?;
-    }
-    Ok(())
+    check_written(rt, &out, printed)?;
+    check_exact(rt, plan, printed)?;
+    check_short(rt, plan, printed.len().saturating_sub(1))
 }
 
 // Prints the answer of report into no bytes.
 fn answer_no_room(rt: &impl Print, plan: &[u8]) -> io::Result<()> {
     let mut out = [MARK; REPORT];
     let answer = calls::report(plan, &mut out[..0]);
-    answer::put_word(rt, b"report")?;
+    print!(rt; "report")?;
     answer::put_count(rt, answer)?;
-    answer::end_line(rt)?;
+    println!(rt; "")?;
     check_left(rt, &out)
 }
 
 // Prints what the planner prints, and the answer of report into no bytes.
 pub fn answer_reports(rt: &impl Print, plan: &[u8]) -> io::Result<()> {
-    let mut out = [MARK; REPORT];
-    let n = calls::output(plan, &mut out);
-    put_printed(rt, out, n)?;
-    if !left_from(&out, n) {
-        answer::wrong(rt, b"the bytes behind what is printed")?;
-    }
-    check_report(rt, plan, &out, n)?;
+    let printed = calls::output(plan);
+    let printed = printed.as_slice();
+    rt.write_all(printed)?;
+    check_report(rt, plan, printed)?;
     answer_no_room(rt, plan)
 }

@@ -1,0 +1,2 @@
+pub mod PlaceTexts
+pub mod Left

@@ -11,7 +11,7 @@ use items::Item;
 use std::array;
 
 // A need: its variable, and the code of its value.
-#[derive(Clone, Copy)]
+#[derive(Clone, Copy, Default)]
 pub struct Need {
     pub variable: u16,
     pub code: u16,
@@ -20,7 +20,7 @@ pub struct Need {
 // An entry: when it heats, starts and ends, what it loads, the codes that its sets give the eight variables, its needs, and
 // which of the 32 units it has. A code is one more than a value, and 0 for none, since condition S compares values and
 // their absence in its inner loop.
-#[derive(Clone, Copy)]
+#[derive(Clone, Copy, Default)]
 pub struct Row {
     pub id: u16,
     pub heat: u16,
@@ -62,11 +62,7 @@ fn needs_of(needs: &[Item]) -> [Need; 4]
     ensures variables { VariablesSay result (map setting_of needs.now) }
     ensures codes { CodesSay result (map setting_of needs.now) }
 {
-    let none = Need {
-        variable: 0,
-        code: 0,
-    };
-    let mut rows = [none; 4];
+    let mut rows = [Need::default(); 4];
     for (j, need) in needs.iter().enumerate() {
         rows[j] = Need {
             variable: need.first as u16,
@@ -101,10 +97,6 @@ pub fn row_of(activity: &Activity) -> Row
     ensures { ActivitySays result (activity_view activity.now) }
 {
     Row {
-        id: 0,
-        heat: 0,
-        start: 0,
-        end: 0,
         engines: activity.engines,
         peak: activity.peak,
         draw: activity.draw,
@@ -112,5 +104,6 @@ pub fn row_of(activity: &Activity) -> Row
         sets: sets_of(activity.sets.as_slice()),
         needs: needs_of(activity.needs.as_slice()),
         units: units_of(activity.units.as_slice()),
+        ..Row::default()
     }
 }

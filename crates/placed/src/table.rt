@@ -7,7 +7,7 @@ ghost use Rattle.placed.specs.Tables.{row_in, volumes_in};
 ghost use Rattle.placed.specs.Held.{TicksAt, CandidateAt};
 ghost use Rattle.placed.specs.Written.{SameBelow};
 
-use crate::row::{Need, Row, row_of};
+use crate::row::{Row, row_of};
 use crate::ticks::heater_from;
 use activity::{Activity, Header};
 use rules::PLACES;
@@ -24,25 +24,8 @@ impl Placed {
     pub fn new() -> Self
         ensures { result.count ≡ 0 }
     {
-        let no_need = Need {
-            variable: 0,
-            code: 0,
-        };
-        let no_row = Row {
-            id: 0,
-            heat: 0,
-            start: 0,
-            end: 0,
-            engines: 0,
-            peak: 0,
-            draw: 0,
-            volume: 0,
-            sets: [0; 8],
-            needs: [no_need; 4],
-            units: [false; 32],
-        };
         Placed {
-            rows: [no_row; PLACES],
+            rows: [Row::default(); PLACES],
             count: 0,
         }
     }

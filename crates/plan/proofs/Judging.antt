@@ -1,90 +1,63 @@
--- Laws of the whole reading: the checks 1, 7 and 9, the first line, and what the answer's struct says.
+-- Laws of the whole reading: the checks 1, 7 and 9, and the first line.
 -- Assumes nothing.
-use Prim.Native.Nat.{ℕ, ◌+◌, ◌≤◌, ◌<◌}
-use mathlib.Core.Path.{◌≡◌, refl, ap, ◌∙◌}
-use mathlib.Core.Bool.{true, false}
-use mathlib.Core.List.{List, [], ◌∷◌, map, map-map}
-use native.Mathlib.Omega.{arith}
-use lib.ListN.{length, get_or, take}
-use borrow.Author.Tests.{lt-ltb, le-ltb, eq-eqb, ne_eqb}
+use Rattle.std.proofs.Common.{arith, ◌≡◌, ◌∙◌, ◌≤◌, ◌<◌, ◌+◌, ◌-◌, ℕ, true, false, List, [], ◌∷◌, map, length, take, drop, Result, Ok, Err, refl, sym, ap}
+use Rattle.std.proofs.Math.Option.{none, some}
+use borrow.Author.Tests.{lt-ltb, le-ltb}
 use Rattle.rules.specs.Bytes.{bytes}
-use Rattle.rules.specs.Lines.{lines, fields}
+use Rattle.rules.specs.Lines.{split_on, lines}
 use Rattle.rules.specs.Fields.{value, fault}
-use Rattle.rules.specs.Plan.{Header, Plan}
-use Rattle.rules.specs.Order.{order}
+use Rattle.rules.specs.Plan.{Header}
 use Rattle.rules.specs.HeaderLine.{header_of}
-use Rattle.rules.specs.Reading.{accepted, no, formed, on_line, misplaced, out_of_reach, judged, after_lines, plan_lines, activity_lines, reading}
+use Rattle.rules.specs.Reading.{accepted, no, formed, on_line, misplaced, line_number, out_of_reach, judged, after_lines, plan_lines, reading}
+use Rattle.rules.specs.Refusals.{number_of, refusal_view, read_as}
+use Rattle.rules.specs.declared.Refusal.{Refusal}
+use Rattle.rules.specs.declared.Fault.{Fault}
+use Rattle.activity.specs.View.{header_view}
+use Rattle.activity.specs.declared.Header.{Header as HeaderStruct}
 use Rattle.text.specs.Text.{index_of}
-use Rattle.plan.specs.View.{activities_in, PlanSaid}
-use Rattle.plan.specs.LineAt.{activity_in, LineSays}
-use Rattle.plan.specs.Reading.{in_order, reading_view}
-use Rattle.order.specs.Lines.{line_among, at_of, id_of, order_lines}
-use Rattle.plan.specs.Collected.{id_in, said_by, LinesIn, found_at}
-use Rattle.plan.specs.LinesView.{Collected, activities_view, lines_view}
-use Rattle.plan.specs.declared.Reading.{Reading as ReadingStruct}
-use Rattle.plan.specs.declared.file.Lines.{Lines}
-use Rattle.order.specs.declared.lines.Line.{Line}
-use Rattle.plan.proofs.Column.{line_ids}
-use Rattle.plan.proofs.Ordering.{order_in, view_order, ids_said, says_at}
-use Rattle.plan.proofs.Cutting.{lines_last, not_ended}
-use Rattle.plan.proofs.Lining.{form_not}
+use Rattle.line.specs.Formed.{is_formed}
+use Rattle.order.specs.Lines.{order_lines}
+use Rattle.order.specs.declared.Line.{Line}
+use Rattle.plan.specs.Said.{said_by, LinesIn, plan_of, in_order}
+use Rattle.plan.specs.View.{plan_view}
+use Rattle.plan.specs.Reading.{reading_view}
+use Rattle.plan.specs.declared.Plan.{Plan as PlanStruct}
+use Rattle.plan.specs.Reached.{lines_from, lines_view, first_from}
+use Rattle.plan.proofs.Ordering.{view_order}
+use Rattle.plan.proofs.Cutting.{line_with, lines_next, lines_last, not_ended, line_fields}
+use Rattle.plan.proofs.Lining.{form_is, form_not}
 
--- what a refusal's struct says
-pub view_refused : (s : List ℕ) (r : ReadingStruct) (number line : ℕ) → (number ≡ 0 → ⊥) → r.number ≡ number → r.line ≡ line → reading_view s r ≡ no number line
-unfolding reading_view
-view_refused s r number line x e f = rw (e, ne_eqb _ _ x, f)
+-- what a refusal is as a reading
+pub refused_view : (q : Refusal) → reading_view (Err q) ≡ no (number_of q.fault) q.line
+unfolding reading_view refusal_view
+refused_view q = refl
 
-pub none_said : (s : List ℕ) (r : ReadingStruct) → r.plan.count ≡ 0 → length r.plan.lines ≡ 64 → PlanSaid s r.plan
-none_said s r e n = record { few = omega arith; long = n; says = λ k h. absurd (omega arith) }
+-- and a plan
+pub accepted_view : (p : PlanStruct) → reading_view (Ok p) ≡ in_order (reading p.bytes.now)
+unfolding reading_view plan_view
+accepted_view p = sym p.is_accepted
 
--- the lines t of s, read behind the header h
-module _ (h : Header) (s : List ℕ) (t : Lines) where
-  pub judge_stopped : (t.number ≡ 0 → ⊥) → in_order (after_lines (lines_view h s t)) ≡ no t.number t.line
-  unfolding in_order after_lines lines_view
-  judge_stopped x = rw (ne_eqb _ _ x)
+-- ---- once all lines are read
 
-  -- the places' lines and ids, out of the lines in order
-  module _ (g : Collected h s t) (list : List Line) (o : take t.count list ≡ order_lines (take t.count t.list)) where
-    pub lines_in_order : LinesIn h s (take t.count list)
-    lines_in_order = rw o (order_in h s (take t.count t.list) g.said)
+module _ (h : Header) (s : List ℕ) (lines : List Line) (g : LinesIn h s lines) where
+  judged_by : after_lines (accepted (plan_of h s lines)) ≡ judged (plan_of h s lines) (misplaced [] (map (said_by h s) (order_lines lines)))
+  unfolding after_lines
+  judged_by = rw (view_order h s lines g)
 
-    pub place_ids : (lines ids : List ℕ) → take t.count lines ≡ map at_of (take t.count list) → take t.count ids ≡ map id_of (take t.count list) → take t.count ids ≡ map (id_in h s) (take t.count lines)
-    place_ids lines ids e f = f ∙ ids_said h s (take t.count list) lines_in_order ∙ rw (e, map-map (id_in h s) at_of (take t.count list))
+  pub judged_7 : (x : Line) → misplaced [] (map (said_by h s) (order_lines lines)) ≡ some (said_by h s x) → in_order (after_lines (accepted (plan_of h s lines))) ≡ no 7 (line_number (said_by h s x).id 2 (map (said_by h s) lines))
+  unfolding in_order judged
+  judged_7 x m = rw (judged_by, m)
 
-    pub all_say : (lines : List ℕ) → length lines ≡ 64 → take t.count lines ≡ map at_of (take t.count list) → (k : ℕ) → k < t.count → LineSays h s (get_or lines k 0)
-    all_say lines n e k l = says_at h s (take t.count list) lines t.count k lines_in_order e l (omega (arith, g.small))
+  module _ (m : misplaced [] (map (said_by h s) (order_lines lines)) ≡ none) where
+    pub judged_9 : out_of_reach h ≡ true → in_order (after_lines (accepted (plan_of h s lines))) ≡ no 9 0
+    unfolding in_order judged
+    judged_9 f = rw (judged_by, m, f)
 
-    module _ (z : t.number ≡ 0) (lines : List ℕ) (e : take t.count lines ≡ map at_of (take t.count list)) (p : ℕ) (m : misplaced [] (activities_in h s (take t.count lines)) ≡ found_at h s lines t.count p) where
-      by_place : activities_in h s (take t.count lines) ≡ order (activities_view h s t)
-      by_place = rw (e, map-map (activity_in h s) at_of (take t.count list), o) (view_order h s (take t.count t.list) g.said)
+    pub judged_on : out_of_reach h ≡ false → in_order (after_lines (accepted (plan_of h s lines))) ≡ accepted (plan_of h s (order_lines lines))
+    unfolding in_order judged
+    judged_on f = rw (judged_by, m, f, view_order h s lines g)
 
-      plan : Plan
-      plan = record { header = h; activities = activities_view h s t }
-
-      lines_read : in_order (after_lines (lines_view h s t)) ≡ in_order (judged plan (found_at h s lines t.count p))
-      unfolding after_lines lines_view plan
-      lines_read = rw (eq-eqb _ _ z, ← by_place, m)
-
-      pub judge_7 : p < t.count → in_order (after_lines (lines_view h s t)) ≡ no 7 (line_among (id_in h s (get_or lines p 0)) 2 (take t.count t.ids))
-      unfolding in_order judged found_at plan
-      judge_7 k = lines_read ∙ rw (lt-ltb _ _ k, g.their_ids, ids_said h s (take t.count t.list) g.said) (ap (no 7) (line_ids (said_by h s) (id_in h s (get_or lines p 0)) 2 (take t.count t.list)))
-
-      pub judge_9 : t.count ≤ p → out_of_reach h ≡ true → in_order (after_lines (lines_view h s t)) ≡ no 9 0
-      unfolding in_order judged found_at plan
-      judge_9 k f = lines_read ∙ rw (le-ltb _ _ k, f)
-
-      pub judge_accepted : t.count ≤ p → out_of_reach h ≡ false → in_order (after_lines (lines_view h s t)) ≡ accepted (record { header = h; activities = activities_in h s (take t.count lines) })
-      unfolding in_order judged found_at plan
-      judge_accepted k f = lines_read ∙ rw (le-ltb _ _ k, f, by_place)
-
--- no line, and a first line that is not formed
-empty : plan_lines (lines []) ≡ no 2 1
-unfolding plan_lines lines
-empty = refl
-
-short : (line : List ℕ) (rest : List (List ℕ)) → formed (bytes "plan") 12 line ≡ false → plan_lines (line ∷ rest) ≡ no 2 1
-unfolding plan_lines
-short line rest f = rw f
+-- ---- the file and its first line
 
 -- 1 comes first
 pub read_1 : (s : List ℕ) → 60000 < length s → in_order (reading s) ≡ no 1 0
@@ -92,7 +65,7 @@ unfolding reading in_order
 read_1 s h = rw (lt-ltb _ _ h)
 
 module _ (s : List ℕ) (h : length s ≤ 60000) where
-  pub read_on : in_order (reading s) ≡ in_order (after_lines (plan_lines (lines s)))
+  read_on : in_order (reading s) ≡ in_order (after_lines (plan_lines (lines s)))
   unfolding reading
   read_on = rw (le-ltb _ _ h)
 
@@ -100,22 +73,66 @@ module _ (s : List ℕ) (h : length s ≤ 60000) where
   unfolding in_order after_lines
   read_no k n e = read_on ∙ rw e
 
-  -- the first line lacks its LF
-  pub read_short : (end : ℕ) → end ≡ 0 + index_of 10 s → length s ≤ end → in_order (reading s) ≡ no 2 1
-  read_short end e k = read_no 2 1 (go s end e k)
-    where
-      go : (w : List ℕ) (end : ℕ) → end ≡ 0 + index_of 10 w → length w ≤ end → plan_lines (lines w) ≡ no 2 1
-      go [] end e k = empty
-      go (x ∷ w) end e k = rw (lines_last (x ∷ w) 0 end e (omega arith) k) (short (x ∷ w) [] (form_not (bytes "plan") 12 (x ∷ w) (not_ended (x ∷ w) 0 end e (omega arith) k)))
+  short : (line : List ℕ) (rest : List (List ℕ)) → lines s ≡ line ∷ rest → formed (bytes "plan") 12 line ≡ false → in_order (reading s) ≡ no 2 1
+  unfolding plan_lines
+  short line rest e f = read_no 2 1 (rw (e, f))
 
-  module _ (line : List ℕ) (rest : List (List ℕ)) (e : lines s ≡ line ∷ rest) where
-    pub read_2 : formed (bytes "plan") 12 line ≡ false → in_order (reading s) ≡ no 2 1
-    read_2 f = read_no 2 1 (rw e (short line rest f))
+  empty : s ≡ [] → in_order (reading s) ≡ no 2 1
+  unfolding plan_lines lines
+  empty e = read_no 2 1 (rw e)
 
-    pub read_fault : formed (bytes "plan") 12 line ≡ true → (k : ℕ) → header_of (fields line) ≡ fault k → in_order (reading s) ≡ no k 1
-    unfolding plan_lines on_line
-    read_fault f k g = read_no k 1 (rw (e, f, g))
+  module _ (end : ℕ) (e : end ≡ index_of 10 s) where
+    lf : end ≡ 0 + index_of 10 (drop 0 s)
+    lf = omega arith
 
-    pub read_lines : formed (bytes "plan") 12 line ≡ true → (a : Header) → header_of (fields line) ≡ value a → in_order (reading s) ≡ in_order (after_lines (activity_lines a [] 2 rest))
-    unfolding plan_lines on_line
-    read_lines f a g = read_on ∙ rw (e, f, g)
+    -- it lacks its LF
+    pub first_ends : length s ≤ end → in_order (reading s) ≡ no 2 1
+    first_ends k = go s refl
+      where
+        go : (w : List ℕ) → s ≡ w → in_order (reading s) ≡ no 2 1
+        go [] q = empty q
+        go (x ∷ w) q =
+            let i : 0 < length s = rw q (omega arith) in
+            short s [] (lines_last s 0 end lf i k) (form_not (bytes "plan") 12 s (not_ended s 0 end lf i k))
+
+    module _ (i : end < length s) where
+      here : lines s ≡ line_with (take end s) ∷ lines (drop (end + 1) s)
+      here = let z : end - 0 ≡ end = omega arith in rw z at (lines_next s 0 end lf i)
+
+      form_here : formed (bytes "plan") 12 (line_with (take end s)) ≡ is_formed (bytes "plan") 12 (take end s)
+      form_here = form_is (bytes "plan") 12 (take end s)
+
+      pub first_2 : is_formed (bytes "plan") 12 (take end s) ≡ false → in_order (reading s) ≡ no 2 1
+      first_2 f = short _ _ here (form_here ∙ f)
+
+      module _ (f : is_formed (bytes "plan") 12 (take end s) ≡ true) where
+        first_fault : (k : ℕ) → header_of (split_on 9 (take end s)) ≡ fault k → in_order (reading s) ≡ no k 1
+        unfolding plan_lines on_line
+        first_fault k g = read_no k 1 (rw (here, form_here ∙ f, line_fields (take end s), g))
+
+        first_on : (a : Header) → header_of (split_on 9 (take end s)) ≡ value a → in_order (reading s) ≡ in_order (after_lines (lines_from a s [] (end + 1)))
+        unfolding plan_lines on_line lines_from
+        first_on a g = read_on ∙ rw (here, form_here ∙ f, line_fields (take end s), g)
+
+        pub first_read : (r : Result HeaderStruct Fault) → read_as header_view r ≡ header_of (split_on 9 (take end s)) → in_order (reading s) ≡ first_from s end r
+        unfolding first_from read_as
+        first_read (Ok h) g = first_on (header_view h) (sym g)
+        first_read (Err x) g = first_fault (number_of x) (sym g)
+
+-- ---- what is next, once the first line is read
+
+pub first_refused : (s : List ℕ) (end : ℕ) (q : Refusal) → q.line ≡ 1 → first_from s end (Err q.fault) ≡ reading_view (Err q)
+unfolding first_from
+first_refused s end q e = rw (← e) (sym (refused_view q))
+
+pub first_lines : (s : List ℕ) (end : ℕ) (h : HeaderStruct) (r : Result (List Line) Refusal) → lines_from (header_view h) s [] (end + 1) ≡ lines_view (header_view h) s r → first_from s end (Ok h) ≡ in_order (after_lines (lines_view (header_view h) s r))
+unfolding first_from
+first_lines s end h r e = ap (λ q. in_order (after_lines q)) e
+
+pub lines_refused : (h : Header) (s : List ℕ) (q : Refusal) → in_order (after_lines (lines_view h s (Err q))) ≡ reading_view (Err q)
+unfolding in_order after_lines lines_view reading_view
+lines_refused h s q = refl
+
+pub lines_read : (h : Header) (s : List ℕ) (lines : List Line) → lines_view h s (Ok lines) ≡ accepted (plan_of h s lines)
+unfolding lines_view
+lines_read h s lines = refl

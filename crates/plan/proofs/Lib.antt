@@ -1,7 +1,10 @@
 pub mod LineAt
-pub mod Column
-pub mod Ordering
-pub mod Places
+pub mod Ids
 pub mod Cutting
+pub mod Ordering
+pub mod Misplaced
 pub mod Lining
+pub mod Mapped
 pub mod Judging
+pub mod Accepted
+pub mod Places

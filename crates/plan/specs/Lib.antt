@@ -1,5 +1,6 @@
 pub mod LineAt
+pub mod Said
 pub mod View
 pub mod Reading
-pub mod Collected
-pub mod LinesView
+pub mod Reached
+pub mod Misplaced

@@ -1,15 +1,11 @@
--- What the reader answers: the definition's reading, with the activities by place.
-use Rattle.std.specs.Prelude.{ℕ, cond, List, eqb}
-use Rattle.rules.specs.Ordered.{ordered}
-use Rattle.rules.specs.Reading.{Reading, accepted, refused, no}
+-- What the reader answers, as a reading: the plan with its activities by place, or the refusal.
+use Rattle.std.specs.Prelude.{Result, Ok, Err}
+use Rattle.rules.specs.Reading.{Reading, accepted, refused}
+use Rattle.rules.specs.Refusals.{refusal_view}
+use Rattle.rules.specs.declared.Refusal.{Refusal}
 use Rattle.plan.specs.View.{plan_view}
-use Rattle.plan.specs.declared.Reading.{Reading as ReadingStruct}
+use Rattle.plan.specs.declared.Plan.{Plan}
 
--- a plan with its activities in the scheduling order
-unfoldable pub in_order : Reading → Reading
-in_order (accepted p) = accepted (ordered p)
-in_order (refused r) = refused r
-
--- what the struct says of the bytes s: their plan, or their refusal
-unfoldable pub reading_view : List ℕ → ReadingStruct → Reading
-reading_view s r = cond (eqb r.number 0) (accepted (plan_view s r.plan)) (no r.number r.line)
+unfoldable pub reading_view : Result Plan Refusal → Reading
+reading_view (Ok p) = accepted (plan_view p)
+reading_view (Err r) = refused (refusal_view r)

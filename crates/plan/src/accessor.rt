@@ -1,14 +1,14 @@
-// What a line says, by where the line begins: the plan stays in its bytes.
-ghost use Rattle.std.specs.Prelude.{◌≡◌, map, ◌≤◌, length};
-ghost use Rattle.rules.specs.Plan.{Header as HeaderValue};
-ghost use Rattle.activity.specs.View.{header_view, activity_view, Sized};
-ghost use Rattle.line.specs.Cursor.{number_of, items_of};
+// What a line says, by where it begins: the plan stays in its bytes.
+ghost use Rattle.std.specs.Prelude.{◌≡◌, ◌≤◌, ◌<◌, length};
+ghost use Rattle.rules.specs.Outcomes.{activity_at};
+ghost use Rattle.activity.specs.View.{header_view, activity_view};
 ghost use Rattle.plan.specs.LineAt.{line_at, activity_in, LineSays};
+ghost use Rattle.plan.specs.View.{plan_view};
 
+use crate::Plan;
 use activity::{Activity, Header};
-use line::activity_line::{numbers, read_activity};
-use text::field::{field_at, find};
-use text::list::{ListRead, read_list};
+use line::activity_line::read_activity;
+use text::field::find;
 
 // The line of s that begins at `at`, without its LF.
 fn line_at(s: &[u8], at: usize) -> &[u8]
@@ -19,21 +19,28 @@ fn line_at(s: &[u8], at: usize) -> &[u8]
     &s[at..end]
 }
 
-// The activity of the line that begins at `at`, in a plan with the header h.
-pub fn activity_at(s: &[u8], at: u16, h: Header) -> Activity
-    requires { LineSays (header_view h) s.now at }
-    ensures result_value { activity_view result ≡ activity_in (header_view h) s.now at }
-    ensures sized { Sized result }
+// The activity of the line of s that begins at `at`, in a plan with this header.
+pub fn activity_in(s: &[u8], at: u16, header: Header) -> Activity
+    requires { LineSays (header_view header) s.now at }
+    ensures { activity_view result ≡ activity_in (header_view header) s.now at }
 {
-    let r = read_activity(line_at(s, at as usize), h);
-    r.activity
+    read_activity(line_at(s, usize::from(at)), &header).unwrap()
 }
 
-// The ids that the line that begins at `at` names in `after`.
-pub fn after_at(s: &[u8], at: u16) -> ListRead
-    requires { at ≤ length s.now }
-    ensures count_bound { result.count ≤ 8 }
-    ensures result_value { (h : HeaderValue) → LineSays h s.now at → map number_of (items_of result) ≡ (activity_in h s.now at).after }
-{
-    read_list(field_at(line_at(s, at as usize), 6), numbers(65535, 8))
+impl Plan<'_> {
+    // How many places the plan has.
+    pub fn count(&self) -> usize
+        ensures value { result ≡ length (plan_view self.now).activities }
+        ensures within { result ≤ 64 }
+    {
+        self.lines.len()
+    }
+
+    // The activity at a place.
+    pub fn activity(&self, place: usize) -> Activity
+        requires { place < length (plan_view self.now).activities }
+        ensures { activity_view result ≡ activity_at (plan_view self.now) place }
+    {
+        activity_in(self.bytes, self.lines.as_slice()[place].at, self.header)
+    }
 }

@@ -1,58 +1,51 @@
 // What `after` names: activities at earlier places.
-ghost use Rattle.std.specs.Prelude.{◌≡◌, [], map, ◌≤◌, length, take};
-ghost use Rattle.rules.specs.Plan.{Header as HeaderValue};
-ghost use Rattle.rules.specs.Tests.{every};
+ghost use Rattle.std.specs.Prelude.{◌≡◌, IfSome, [], map, eqb};
+ghost use Rattle.std.specs.List.{Contains, list_any, list_all};
+ghost use Rattle.std.specs.Option.{option_map};
 ghost use Rattle.rules.specs.Reading.{misplaced};
 ghost use Rattle.activity.specs.View.{header_view};
-ghost use Rattle.plan.specs.View.{PlanSaid, plan_view};
-ghost use Rattle.plan.specs.LineAt.{activity_in, LineSays};
-ghost use Rattle.plan.specs.Collected.{among_ids, id_in, found_at};
+ghost use Rattle.plan.specs.LineAt.{LineSays};
+ghost use Rattle.plan.specs.Said.{said_by, LinesIn};
+ghost use Rattle.plan.specs.Misplaced.{as_option};
 
-use crate::Plan;
-use crate::accessor::after_at;
-use line::fields::eight_of;
-use rules::among;
+use crate::accessor::activity_in;
+use activity::Header;
+use items::Item;
+use order::Line;
 
-// Whether each of the first `count` ids of after is among the first n.
-fn all_among<'a>(after: &'a [u32], count: usize, ids: &'a [u32], n: usize) -> bool
-    requires { (count ≤ length after.now) × (n ≤ length ids.now) }
-    ensures { result ≡ every (among_ids (take n ids.now)) (take count after.now) }
+// Whether one of the lines says this id.
+pub fn says_id(lines: &[Line], id: u32) -> bool
+    ensures { result ≡ list_any (λ line. eqb line.id id) lines.now }
 {
-    let mut i = 0;
-    while i < count {
-        if !among(ids, n, after[i]) {
-            return false;
-        }
-        i += 1;
-    }
-    true
+    lines.iter().any(|line| u32::from(line.id) == id)
 }
 
-// Whether each id that the line at `at` names in `after` is among the first n.
-fn follows<'a>(s: &'a [u8], at: u16, ids: &'a [u32], n: usize) -> bool
-    requires { (at ≤ length s.now) × (n ≤ length ids.now) }
-    ensures { (h : HeaderValue) → LineSays h s.now at → result ≡ every (among_ids (take n ids.now)) (activity_in h s.now at).after }
+// Whether each of the ids is that of one of the lines.
+fn all_said(ids: &[Item], lines: &[Line]) -> bool
+    ensures { result ≡ list_all (λ item. list_any (λ line. eqb line.id item.first) lines.now) ids.now }
 {
-    let list = after_at(s, at);
-    let after = eight_of(list);
-    all_among(&after, list.count, ids, n)
+    ids.iter().all(|item| says_id(lines, item.first))
 }
 
-// The least place whose `after` names no activity at an earlier place, or the number of places; the ids are those by place.
-pub fn first_misplaced<'a>(s: &'a [u8], p: Plan, ids: &'a [u32]) -> usize
-    requires { PlanSaid s.now p × (p.count ≤ length ids.now) × (take p.count ids.now ≡ map (id_in (header_view p.header) s.now) (take p.count p.lines)) }
-    ensures { misplaced [] (plan_view s.now p).activities ≡ found_at (header_view p.header) s.now p.lines p.count result }
+// Whether each id that the line of s names in `after` is that of one of the earlier lines.
+fn follows(s: &[u8], line: Line, header: Header, earlier: &[Line]) -> bool
+    requires { LineSays (header_view header) s.now line.at }
+    ensures { result ≡ list_all (λ id. list_any (λ other. eqb other.id id) earlier.now) (said_by (header_view header) s.now line).after }
 {
-    let n = p.count;
-    let lines = p.lines;
-    // places that are left to try
-    let mut left = n;
-    while 0 < left {
-        let i = n - left;
-        if !follows(s, lines[i], ids, i) {
-            return i;
+    let activity = activity_in(s, line.at, header);
+    all_said(activity.after.as_slice(), earlier)
+}
+
+// The first of these lines of s, by place, whose `after` names no activity at an earlier place.
+pub fn first_misplaced(s: &[u8], header: Header, lines: &[Line]) -> Option<Line>
+    requires { LinesIn (header_view header) s.now lines.now }
+    ensures value { misplaced [] (map (said_by (header_view header) s.now) lines.now) ≡ as_option (option_map (said_by (header_view header) s.now) result) }
+    ensures among { IfSome result (Contains lines.now) }
+{
+    for (place, line) in lines.iter().enumerate() {
+        if !follows(s, *line, header, &lines[..place]) {
+            return Some(*line);
         }
-        left -= 1;
     }
-    n
+    None
 }

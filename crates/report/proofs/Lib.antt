@@ -1,1 +1,2 @@
 pub mod LetterWriting
+pub mod LineByLine

@@ -1,4 +1,5 @@
 pub mod Words
 pub mod Shown
+pub mod FirstWrong
 -- how the functions of this crate and of `explanation` write
 pub mod Writing

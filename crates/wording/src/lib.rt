@@ -4,3 +4,4 @@
 pub mod shown;
 pub mod words;
 pub mod writing;
+pub mod wrong;

@@ -3,6 +3,4 @@ use Rattle.plan.proofs.LineAt.{line_to}
 use Rattle.plan.proofs.accessor.line_at.Goals as goal
 
 pub returns : goal.returns
-returns c =
-    let a = c.args in
-    line_to a.s.now a.at c.find-end.result c.find-end.ensures.value
+returns c = line_to c.args.s.now c.args.at c.find-end.result c.find-end.ensures.value

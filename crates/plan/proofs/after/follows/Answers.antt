@@ -1,16 +1,13 @@
 -- `after::follows` meets its contract.
-use mathlib.Core.Path.{◌≡◌, ◌∙◌}
-use native.Mathlib.Omega.{arith}
-use borrow.Author.Rules.{rules}
-use lib.ListN.{length}
+use Rattle.std.proofs.Common.{◌∙◌, eqb, sym, ap}
+use Rattle.std.specs.List.{list_any, list_all}
+use Rattle.rules.specs.Plan.{Activity}
+use Rattle.activity.specs.View.{activity_view, number_of}
+use Rattle.std.proofs.lemmas.List.Folds.{list_all-map}
 use Rattle.plan.proofs.after.follows.Goals as goal
 
-pub all_among-requires : goal.all_among-requires
-all_among-requires c =
-    let l = c.after_at-list in
-    let m : length c.eight_of-after.result ≡ 8 = search rules in
-    (omega (arith, l.ensures.count_bound), omega arith)
-
 pub returns : goal.returns
+unfolding activity_view
 returns c =
-    λ h g. c.all_among.ensures ∙ rw (c.eight_of-after.ensures, c.after_at-list.ensures.result_value h g)
+    let ids = c.activity_in-activity.result.after in
+    c.all_said.ensures ∙ rw c.as_slice.ensures.value (sym (list_all-map _ number_of ids)) ∙ ap (λ (a : Activity). list_all (λ id. list_any (λ other. eqb other.id id) c.args.earlier.now) a.after) c.activity_in-activity.ensures

@@ -1,7 +1,7 @@
 -- One byte more is shown.
 use Rattle.std.proofs.Common.{sym, ◌∙◌, ap}
-use Rattle.wording.specs.Shown.{shown, shown_byte}
-use Rattle.wording.specs.Writing.{Written, with_more}
+use Rattle.wording.specs.Shown.{shown}
+use Rattle.wording.specs.Writing.{with_more}
 use Rattle.wording.proofs.Escapes.{shown_next}
 use Rattle.wording.proofs.Pieces.{more_none, more_then}
 use Rattle.wording.proofs.shown.put_shown.Goals as goal

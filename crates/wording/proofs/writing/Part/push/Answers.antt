@@ -1,5 +1,5 @@
 -- What is passed over and what is kept of a word are as the text's part has them.
-use Rattle.std.proofs.Common.{◌∙◌, ◌-◌, ap, refl, arith, rules, List, ℕ, length, take, drop}
+use Rattle.std.proofs.Common.{◌∙◌, ◌-◌, ap, refl, arith, rules, length, take, drop}
 use Rattle.std.proofs.lemmas.Grind.{common_steps}
 use Rattle.wording.specs.Writing.{Written, with_more}
 use Rattle.wording.proofs.Pieces.{piece_written}

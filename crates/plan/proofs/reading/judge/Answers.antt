@@ -1,0 +1,51 @@
+-- `reading::judge` meets its contract: check by check, the definition goes the same way.
+use Rattle.std.proofs.Common.{◌≡◌, ◌∙◌, [], map, sym, ap}
+use Rattle.std.proofs.Math.Option.{none}
+use Rattle.std.specs.Option.{unwrap_or}
+use Rattle.std.proofs.lemmas.List.Elements.{All-contains}
+use Rattle.rules.specs.Reading.{misplaced, no}
+use Rattle.activity.specs.View.{header_view}
+use Rattle.order.specs.Lines.{order_lines}
+use Rattle.plan.specs.Said.{said_by, LineIn}
+use Rattle.plan.proofs.Ids.{line_is, line_found}
+use Rattle.plan.proofs.Ordering.{order_in}
+use Rattle.plan.proofs.Judging.{refused_view, accepted_view, judged_7, judged_9, judged_on}
+use Rattle.plan.proofs.reading.judge.Goals as goal
+use Rattle.plan.proofs.reading.judge.Goals.{In_default}
+
+pub first_misplaced-requires : goal.first_misplaced-requires
+first_misplaced-requires c = rw (c.as_slice.ensures.value, c.ordered-by_place.ensures.value) (order_in (header_view c.args.header) c.args.s.now c.args.lines c.requires.said)
+
+pub unwrap-line-requires : goal.unwrap-line-requires
+unwrap-line-requires c = rw c.line_of.ensures (line_found c.args.lines c.ordered-by_place.result c.in-Some.misplaced c.ordered-by_place.ensures.same_lines (rw c.as_slice.ensures.value at c.in-Some.ensures.among))
+
+pub returns-in-Some-clause-value : goal.returns-in-Some-clause-value
+returns-in-Some-clause-value c =
+    let a = c.args in
+    let h = header_view a.header in
+    let s = a.s.now in
+    let x = c.in-Some.misplaced in
+    let m = rw (c.as_slice.ensures.value, c.ordered-by_place.ensures.value) at c.in-Some.ensures.value in
+    let l = All-contains (LineIn h s) (order_lines a.lines) x (order_in h s a.lines c.requires.said) (rw (c.as_slice.ensures.value, c.ordered-by_place.ensures.value) at c.in-Some.ensures.among) in
+    refused_view _ ∙ sym (c.requires.read ∙ judged_7 h s a.lines c.requires.said x m ∙ ap (no 7) (line_is h s a.lines c.requires.said (said_by h s x).id ∙ rw (← l.id_is) (ap (λ o. unwrap_or o 0) (sym c.line_of.ensures ∙ c.unwrap-line.ensures))))
+
+-- no place is misplaced
+none_misplaced : (c : In_default) → misplaced [] (map (said_by (header_view c.args.header) c.args.s.now) (order_lines c.args.lines)) ≡ none
+none_misplaced c = rw (c.as_slice.ensures.value, c.ordered-by_place.ensures.value) at c.in_default.ensures.value
+
+pub returns-then-out_of_reach-clause-value : goal.returns-then-out_of_reach-clause-value
+returns-then-out_of_reach-clause-value c =
+    let a = c.args in
+    refused_view _ ∙ sym (c.requires.read ∙ judged_9 (header_view a.header) a.s.now a.lines c.requires.said (none_misplaced (goal.at.returns-then-out_of_reach-clause-value c).In_default) (sym c.out_of_reach.ensures ∙ c.if-out_of_reach.true))
+
+pub invariant_of-result : goal.invariant_of-result
+invariant_of-result c =
+    let a = c.args in
+    rw c.ordered-by_place.ensures.value
+    (record {
+      said = order_in (header_view a.header) a.s.now a.lines c.requires.said;
+      is_accepted = c.requires.read ∙ judged_on (header_view a.header) a.s.now a.lines c.requires.said (none_misplaced (goal.at.invariant_of-result c).In_default) (sym c.out_of_reach.ensures ∙ c.if-out_of_reach.false);
+    })
+
+pub returns-clause-value : goal.returns-clause-value
+returns-clause-value c = accepted_view _

@@ -1,0 +1,86 @@
+// A plan file, read: its first line, its other lines, and what is judged once all are read.
+ghost use Rattle.std.specs.Prelude.{◌≡◌, ◌+◌, ◌<◌, ◌≤◌, IfOk, length, drop};
+ghost use Rattle.rules.specs.Reading.{accepted, after_lines, reading};
+ghost use Rattle.text.specs.Text.{index_of};
+ghost use Rattle.activity.specs.View.{header_view};
+ghost use Rattle.order.specs.Lines.{Rises};
+ghost use Rattle.plan.specs.Said.{LinesIn, plan_of, in_order};
+ghost use Rattle.plan.specs.Reading.{reading_view};
+ghost use Rattle.plan.specs.Reached.{first_from};
+
+use crate::Plan;
+use crate::after::first_misplaced;
+use crate::file::read_lines;
+use activity::Header;
+use charge::out_of_reach;
+use line::fields::formed;
+use line::first_line::read_header;
+use order::Lines;
+use rules::{Fault, Refusal};
+use text::field::find;
+use text::word::PLAN;
+
+// A plan file has at most this many bytes.
+const MOST_BYTES: usize = 60000;
+
+// What the first line of s says, which ends at byte `end`.
+fn read_first(s: &[u8], end: usize) -> Result<Header, Fault>
+    requires { (end ≡ index_of 10 s.now) × (end ≤ length s.now) × (length s.now ≤ 60000) }
+    ensures value { in_order (reading s.now) ≡ first_from s.now end result }
+    ensures ended { IfOk result (λ h. end < length s.now) }
+{
+    let line = &s[..end];
+    if end == s.len() {
+        return Err(Fault::NotFormed);
+    }
+    if !formed(line, &PLAN, 12) {
+        return Err(Fault::NotFormed);
+    }
+    read_header(line)
+}
+
+// What the file s says, with this header and these lines.
+fn judge(s: &[u8], header: Header, lines: Lines) -> Result<Plan, Refusal>
+    requires said { LinesIn (header_view header) s.now lines }
+    requires rises { Rises lines }
+    requires read { in_order (reading s.now) ≡ in_order (after_lines (accepted (plan_of (header_view header) s.now lines))) }
+    ensures value { reading_view result ≡ in_order (reading s.now) }
+    ensures bytes { IfOk result (λ plan. plan.bytes.now ≡ s.now) }
+{
+    let by_place = lines.ordered();
+    if let Some(misplaced) = first_misplaced(s, header, by_place.as_slice()) {
+        let line = lines.line_of(misplaced.id).unwrap();
+        return Err(Refusal {
+            fault: Fault::Misplaced,
+            line,
+        });
+    }
+    if out_of_reach(header) {
+        return Err(Refusal {
+            fault: Fault::OutOfReach,
+            line: 0,
+        });
+    }
+    Ok(Plan {
+        bytes: s,
+        header,
+        lines: by_place,
+    })
+}
+
+// What the plan file s says.
+pub fn read(s: &[u8]) -> Result<Plan, Refusal>
+    ensures value { reading_view result ≡ in_order (reading s.now) }
+    ensures bytes { IfOk result (λ plan. plan.bytes.now ≡ s.now) }
+{
+    if MOST_BYTES < s.len() {
+        return Err(Refusal {
+            fault: Fault::TooLong,
+            line: 0,
+        });
+    }
+    let end = find(s, 0, b'\n');
+    let header = read_first(s, end).map_err(|fault| Refusal { fault, line: 1 })?;
+    let lines = read_lines(s, end + 1, header)?;
+    judge(s, header, lines)
+}
