@@ -1,18 +1,11 @@
 -- What the struct of a plan says: its bytes are accepted, and it holds their plan in the scheduling order.
 -- Assumes nothing.
-use Rattle.std.proofs.Common.{◌≡◌, ◌∙◌, ◌<◌, ℕ, length, refl, sym, ap}
+use Rattle.std.proofs.Common.{◌≡◌, refl}
 use Rattle.rules.specs.Plan.{Plan}
 use Rattle.rules.specs.Order.{order}
 use Rattle.rules.specs.Ordered.{ordered}
-use Rattle.rules.specs.OrderRight.{nth_activity}
-use Rattle.rules.specs.Outcomes.{activity_at, no_activity}
 use Rattle.rules.specs.Reading.{Reading, accepted, refused, reading}
-use Rattle.rules.specs.WellFormed.{HeaderFormed, ActivityFormed, WellFormed, Reachable}
-use Rattle.rules.proofs.Accepted.{accepted_formed}
-use Rattle.rules.proofs.ListAt.{at_mem}
-use Rattle.rules.proofs.Order.{order_right, order_length}
 use Rattle.rules.proofs.Ordered.{order_again}
-use Rattle.activity.specs.View.{header_view}
 use Rattle.plan.specs.Said.{in_order}
 use Rattle.plan.specs.View.{plan_view}
 use Rattle.plan.specs.declared.Plan.{Plan as PlanStruct}

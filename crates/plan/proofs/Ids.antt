@@ -1,6 +1,6 @@
 -- The rules' tests of the ids of activities are those of the ids of their lines.
 -- Assumes nothing.
-use Rattle.std.proofs.Common.{arith, ◌≡◌, ◌+◌, ℕ, suc, Bool, true, false, cond, ◌||◌, List, [], ◌∷◌, map, eqb, add-one, Option, Some, None, refl, sym, ap, ◌∙◌}
+use Rattle.std.proofs.Common.{arith, ◌≡◌, ◌+◌, ℕ, suc, Bool, true, false, cond, ◌||◌, List, [], ◌∷◌, map, eqb, add-one, Some, refl, sym, ap, ◌∙◌}
 use Rattle.std.specs.List.{Contains, list_any, position, position_from}
 use Rattle.std.specs.List.Sorted.{IsPermutation}
 use Rattle.std.specs.Option.{IsSome, option_map, unwrap_or}

@@ -4,10 +4,9 @@ use Rattle.std.proofs.Common.{arith, ◌≡◌, ◌∙◌, ◌≤◌, ◌<◌, �
 use Rattle.std.proofs.Math.Option.{none, some}
 use borrow.Author.Tests.{lt-ltb, le-ltb}
 use Rattle.rules.specs.Bytes.{bytes}
-use Rattle.rules.specs.Lines.{split_on, lines, fields}
+use Rattle.rules.specs.Lines.{split_on, lines}
 use Rattle.rules.specs.Fields.{value, fault}
-use Rattle.rules.specs.Plan.{Header, Plan}
-use Rattle.rules.specs.Order.{order}
+use Rattle.rules.specs.Plan.{Header}
 use Rattle.rules.specs.HeaderLine.{header_of}
 use Rattle.rules.specs.Reading.{accepted, no, formed, on_line, misplaced, line_number, out_of_reach, judged, after_lines, plan_lines, reading}
 use Rattle.rules.specs.Refusals.{number_of, refusal_view, read_as}

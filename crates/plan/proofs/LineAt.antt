@@ -1,19 +1,13 @@
 -- Laws of what a line says: by its end, its value, and its bounds.
 -- Assumes nothing.
-use Rattle.std.proofs.Common.{arith, ◌≡◌, ◌<◌, ◌≤◌, ◌+◌, ◌-◌, ℕ, List, ◌++◌, take, drop, length, true, Result, Ok, Err, IfOk, refl, sym, ap, subst, ◌∙◌}
+use Rattle.std.proofs.Common.{arith, ◌≡◌, ◌<◌, ◌+◌, ◌-◌, ℕ, List, take, drop, length, Result, Ok, Err, refl, sym, ap}
 use Rattle.std.specs.Result.{IsOk}
 use Rattle.rules.specs.Plan.{Header, Activity}
-use Rattle.rules.specs.Bytes.{bytes}
-use Rattle.rules.specs.Lines.{split_on, fields}
+use Rattle.rules.specs.Lines.{split_on}
 use Rattle.rules.specs.Fields.{Read, value, fault}
 use Rattle.rules.specs.ActivityLine.{activity_of}
-use Rattle.rules.specs.Reading.{formed}
 use Rattle.rules.specs.Refusals.{number_of, read_as}
 use Rattle.rules.specs.declared.Fault.{Fault}
-use Rattle.rules.specs.WellFormed.{ActivityFormed}
-use Rattle.rules.proofs.Says.{Says, said, faulted}
-use Rattle.rules.proofs.ReadFacts.{formed_facts}
-use Rattle.rules.proofs.LineFacts.{ActivitySaid, activity_says}
 use Rattle.text.specs.Text.{index_of}
 use Rattle.plan.specs.LineAt.{line_at, value_in, activity_in, LineSays}
 

@@ -58,12 +58,9 @@ pub fn read_lines(s: &[u8], from: usize, header: Header) -> Result<Lines, Refusa
     let mut at = from;
     while at < s.len() {
         let end = find(s, at, b'\n');
-        let number = lines.len() as u32 + 2;
-        let line = read_line(s, at, end, header, &lines).map_err(|fault| Refusal {
-            fault,
-            line: number,
-        })?;
-        lines.push(line);
+        let line = lines.len() as u32 + 2;
+        let next = read_line(s, at, end, header, &lines).map_err(|fault| Refusal { fault, line })?;
+        lines.push(next);
         at = end + 1;
     }
     Ok(lines)

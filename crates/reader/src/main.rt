@@ -6,12 +6,29 @@ ghost use Rattle.std.specs.Prelude.{◌≤◌, ◌<◌, IfOk, length};
 mod show;
 
 use input::{read_input, trouble};
-use plan::read;
-use show::show_reading;
+use plan::Plan;
+use show::{ActivityLine, FirstLine};
 use std::io;
 use std::process::ExitCode;
 use text::field::find;
-use text::number::{Number, read_number};
+use text::number::read_number;
+
+// Prints a plan.
+fn show_plan(rt: &impl Print, plan: &Plan) -> io::Result<()> {
+    println!(rt; "{}", FirstLine(&plan.header))?;
+    for place in 0..plan.count() {
+        println!(rt; "{}", ActivityLine(&plan.activity(place)))?;
+    }
+    Ok(())
+}
+
+// Prints what a file says.
+fn show_reading(rt: &impl Print, file: &[u8]) -> io::Result<()> {
+    match plan::read(file) {
+        Ok(plan) => show_plan(rt, &plan),
+        Err(refusal) => println!(rt; "no\t{}\t{}", u32::from(refusal.fault), refusal.line),
+    }
+}
 
 // Prints what the file at `at` says, and answers where the next one is.
 fn show_file(rt: &impl Print, s: &[u8], at: usize) -> io::Result<usize>
@@ -22,7 +39,7 @@ fn show_file(rt: &impl Print, s: &[u8], at: usize) -> io::Result<usize>
     if end == s.len() {
         return Ok(end);
     }
-    let Number::Value(n) = read_number(&s[at..end]) else {
+    let Some(n) = read_number(&s[at..end]) else {
         return Ok(s.len());
     };
     let from = end + 1;
@@ -30,8 +47,7 @@ fn show_file(rt: &impl Print, s: &[u8], at: usize) -> io::Result<usize>
         return Ok(s.len());
     }
     let to = from + n as usize;
-    let file = &s[from..to];
-    show_reading(rt, file, read(file))?;
+    show_reading(rt, &s[from..to])?;
     Ok(to)
 }
 
@@ -46,11 +62,9 @@ fn show_files(rt: &impl Print, s: &[u8]) -> io::Result<()> {
 
 fn main(rt: HostRuntime) -> ExitCode {
     let mut space = [0u8; 262144];
-    let input = read_input(&mut rt.stdin(), &mut space);
-    if input.failed {
+    let Ok(n) = read_input(&mut rt.stdin(), &mut space) else {
         return trouble(&rt, "reader: standard input cannot be read");
-    }
-    let n = input.count;
+    };
     if show_files(&rt, &space[..n]).is_err() {
         return trouble(&rt, "reader: standard output cannot be written");
     }

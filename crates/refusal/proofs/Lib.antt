@@ -1,3 +1,3 @@
-pub mod FileLines
 pub mod FieldTexts
+pub mod FileLines
 pub mod Named

@@ -5,7 +5,7 @@ use Rattle.rules.specs.Number.{decimal}
 use Rattle.rules.specs.Lines.{fields, field}
 use Rattle.rules.specs.Fields.{number_field}
 use Rattle.rules.specs.Faults.{line_at}
-use Rattle.rules.specs.declared.Refusal.{Refusal}
+use Rattle.rules.specs.Refusals.{Refusal}
 use Rattle.wording.specs.Words.{refusal_words, line_words, field_words}
 use Rattle.wording.specs.Shown.{shown}
 use Rattle.wording.specs.FirstWrong.{read_number, plan_fields, act_fields, first_wrong}

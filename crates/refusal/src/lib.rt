@@ -1,152 +1,146 @@
 #![tactic(auto)]
 // The text of a refused file: its number in words, and its line and field as they are read.
-ghost use Rattle.std.specs.Prelude.{◌≡◌, [], ◌-◌, ◌≤◌, length, take, drop};
-ghost use Rattle.rules.specs.Lines.{lines};
+ghost use Rattle.std.specs.Prelude.{◌≡◌, ℕ, ◌-◌, ◌≤◌, length, take};
 ghost use Rattle.rules.specs.Faults.{line_at};
+ghost use Rattle.rules.specs.Refusals.{number_of, refusal_view};
 ghost use Rattle.refusal.specs.Refused.{horizon_of, wrong_field, field_of, line_text, field_text, refusal_line, refused_text};
-ghost use Rattle.wording.specs.Writing.{Wrote};
+ghost use Rattle.wording.specs.FirstWrong.{field_in};
+ghost use Rattle.wording.specs.Writing.{with_more};
 
-use text::field::{field_at, field_count, find};
+use rules::{Fault, Refusal};
+use text::field::{field_at, field_count};
 use wording::shown::put_shown;
-use wording::words::{put_field_words, put_line_words, put_refusal_words};
-use wording::writing::{Cursor, put_byte, put_word, put_word_number};
+use wording::words::{field_words, line_words, refusal_words};
+use wording::writing::Part;
 use wording::wrong::{horizon_in, wrong_in_act, wrong_in_plan};
 
-// The byte where line n begins, counted from 1; the length where there is no such line.
-fn line_begin(s: &[u8], n: u32) -> usize
-    requires { 1 ≤ n }
-    ensures { (result ≤ length s.now) × (drop (n - 1) (lines s.now) ≡ lines (drop result s.now)) }
-{
-    let mut at = 0;
-    let mut i = 1;
-    while i < n {
-        let end = find(s, at, b'\n');
-        if end == s.len() {
-            return end;
+// A line of a file: its number, counted from 1, and its bytes.
+#[derive(Drop)]
+struct Line<'a> {
+    number: u32,
+    bytes: &'a [u8],
+}
+
+impl<'a> Line<'a> {
+    // Line n of the file s, with its LF; behind the last one, no bytes.
+    fn of(s: &'a [u8], n: u32) -> Self
+        requires { 1 ≤ n }
+        ensures number { result.number ≡ n }
+        ensures bytes { result.bytes.now ≡ line_at s.now n }
+    {
+        let mut lines = s.split_inclusive(|b| *b == b'\n');
+        Line {
+            number: n,
+            bytes: lines.nth(n as usize - 1).unwrap_or(&[]),
         }
-        at = end + 1;
-        i += 1;
     }
-    at
-}
 
-// Line n with its LF.
-fn line_of(s: &[u8], n: u32) -> &[u8]
-    requires { 1 ≤ n }
-    ensures { result.now ≡ line_at s.now n }
-{
-    let at = line_begin(s, n);
-    let end = find(s, at, b'\n');
-    if end == s.len() {
-        return &s[at..end];
+    // Its bytes but the last one.
+    fn text(&self) -> &[u8]
+        ensures { result.now ≡ take (length self.now.bytes.now - 1) self.now.bytes.now }
+    {
+        &self.bytes[..self.bytes.len().saturating_sub(1)]
     }
-    &s[at..end + 1]
-}
 
-// A line without its last byte.
-fn without_last(l: &[u8]) -> &[u8]
-    ensures { result.now ≡ take (length l.now - 1) l.now }
-{
-    if l.len() == 0 {
-        return &l[0..0];
+    // The field that draws 3, 4 or 8, in a plan of this horizon.
+    #[tactic(auto, unfolding(crate::specs::Refused::wrong_field, rules::specs::Lines::fields))]
+    fn wrong_field(&self, horizon: u32) -> Option<u32>
+        ensures { result ≡ field_in (wrong_field horizon self.now.number self.now.bytes.now) }
+    {
+        if self.number == 1 {
+            wrong_in_plan(self.text())
+        } else {
+            wrong_in_act(self.text(), horizon)
+        }
     }
-    &l[0..l.len() - 1]
+
+    // The field that this fault of the line is about.
+    #[tactic(auto, unfolding(crate::specs::Refused::field_of))]
+    fn field_of(&self, fault: Fault, horizon: u32) -> Option<u32>
+        ensures { result ≡ field_in (field_of horizon (number_of fault) self.now.number self.now.bytes.now) }
+    {
+        match fault {
+            Fault::NotFormed | Fault::TooMany => None,
+            Fault::Repeated => Some(1),
+            Fault::Misplaced => Some(6),
+            _ => self.wrong_field(horizon),
+        }
+    }
+
+    // Writes the line as it is read.
+    #[tactic(auto, using(wording::proofs::Pieces::more_then), unfolding(crate::specs::Refused::line_text, rules::specs::Lines::fields))]
+    fn put(&self, out: &mut Part)
+        ensures { out.new ≡ with_more out.old (line_text self.now.number self.now.bytes.now) }
+    {
+        out.push(b"line ");
+        out.push_number(u64::from(self.number));
+        out.push(b": ");
+        put_shown(out, self.bytes);
+        out.push(b"\nfields: ");
+        out.push_number(field_count(self.text()) as u64);
+        out.push(b"\n");
+    }
+
+    // Writes what the line must be.
+    #[tactic(auto, using(wording::proofs::Pieces::more_then), unfolding(crate::specs::Refused::field_text))]
+    fn put_must_be(&self, out: &mut Part)
+        ensures { out.new ≡ with_more out.old (field_text self.now.number self.now.bytes.now 0) }
+    {
+        out.push(b"must be: ");
+        out.push(line_words(self.number));
+        out.push(b"\n");
+    }
+
+    // Writes a field, for people counted from 1, and what it must be; where there is none, what the line must be.
+    #[tactic(auto, using(wording::proofs::Pieces::more_then, crate::proofs::FieldTexts::field_said))]
+    fn put_field(&self, out: &mut Part, field: Option<u32>)
+        ensures { (i : ℕ) → field ≡ field_in i → out.new ≡ with_more out.old (field_text self.now.number self.now.bytes.now i) }
+    {
+        let Some(field) = field else {
+            return self.put_must_be(out);
+        };
+        out.push(b"field ");
+        out.push_number(u64::from(field) + 1);
+        out.push(b": ");
+        put_shown(out, field_at(self.text(), field as usize));
+        out.push(b"\nmust be: ");
+        out.push(field_words(self.number, field));
+        out.push(b"\n");
+    }
 }
 
 // The horizon that the first line says, or 0.
+#[tactic(auto, unfolding(crate::specs::Refused::horizon_of, rules::specs::Lines::fields))]
 fn horizon_of(s: &[u8]) -> u32
     ensures { result ≡ horizon_of s.now }
 {
-    horizon_in(without_last(line_of(s, 1)))
-}
-
-// The field of line n that draws 3, 4 or 8.
-fn wrong_field(horizon: u32, n: u32, l: &[u8]) -> u32
-    ensures { result ≡ wrong_field horizon n l.now }
-{
-    if n == 1 {
-        return wrong_in_plan(without_last(l));
-    }
-    wrong_in_act(without_last(l), horizon)
-}
-
-// The field that a refusal is about, 0 where there is none.
-fn field_of(horizon: u32, number: u32, n: u32, l: &[u8]) -> u32
-    ensures { result ≡ field_of horizon number n l.now }
-{
-    if number == 2 {
-        return 0;
-    }
-    if number == 5 {
-        return 0;
-    }
-    if number == 6 {
-        return 1;
-    }
-    if number == 7 {
-        return 6;
-    }
-    wrong_field(horizon, n, l)
-}
-
-// Writes line n as it is read.
-fn put_line(out: &mut [u8], c: Cursor, n: u32, l: &[u8]) -> Cursor
-    ensures { Wrote (line_text n l.now) c out.old result out.new }
-{
-    let count = field_count(without_last(l));
-    let mut at = put_word_number(out, c, b"line ", n as u64);
-    at = put_word(out, at, b": ");
-    at = put_shown(out, at, l);
-    at = put_word_number(out, at, b"\nfields: ", count as u64);
-    put_byte(out, at, b'\n')
-}
-
-// Writes what line n must be.
-fn put_must_be(out: &mut [u8], c: Cursor, n: u32) -> Cursor
-    ensures { Wrote (field_text n [] 0) c out.old result out.new }
-{
-    let mut at = put_word(out, c, b"must be: ");
-    at = put_line_words(out, at, n);
-    put_byte(out, at, b'\n')
-}
-
-// Writes field i of line n, for people counted from 1, and what it must be; where i is 0, what the line must be.
-fn put_field(out: &mut [u8], c: Cursor, n: u32, l: &[u8], i: u32) -> Cursor
-    ensures { Wrote (field_text n l.now i) c out.old result out.new }
-{
-    if i == 0 {
-        return put_must_be(out, c, n);
-    }
-    let field = field_at(without_last(l), i as usize);
-    let mut at = put_word_number(out, c, b"field ", i as u64 + 1);
-    at = put_word(out, at, b": ");
-    at = put_shown(out, at, field);
-    at = put_word(out, at, b"\nmust be: ");
-    at = put_field_words(out, at, n, i);
-    put_byte(out, at, b'\n')
+    horizon_in(Line::of(s, 1).text())
 }
 
 // Writes the number and line of a refusal, and the number in words.
-fn put_number_line(out: &mut [u8], c: Cursor, number: u32, line: u32) -> Cursor
-    ensures { Wrote (refusal_line number line) c out.old result out.new }
+#[tactic(auto, using(wording::proofs::Pieces::more_then), unfolding(crate::specs::Refused::refusal_line))]
+fn put_number_line(out: &mut Part, refused: Refusal)
+    ensures { out.new ≡ with_more out.old (refusal_line (number_of refused.fault) refused.line) }
 {
-    let mut at = put_word_number(out, c, b"refused ", number as u64);
-    at = put_word_number(out, at, b" at line ", line as u64);
-    at = put_word(out, at, b": ");
-    at = put_refusal_words(out, at, number);
-    put_byte(out, at, b'\n')
+    out.push(b"refused ");
+    out.push_number(u64::from(u32::from(refused.fault)));
+    out.push(b" at line ");
+    out.push_number(u64::from(refused.line));
+    out.push(b": ");
+    out.push(refusal_words(refused.fault));
+    out.push(b"\n");
 }
 
-// Writes the text of the file s, which is refused with this number and line.
-pub fn put_refusal(out: &mut [u8], c: Cursor, s: &[u8], number: u32, line: u32) -> Cursor
-    ensures { Wrote (refused_text s.now (record { number = number; line = line })) c out.old result out.new }
+// Writes the text of the file s, which is refused so.
+#[tactic(auto, using(std::proofs::lemmas::Grind::common_steps, wording::proofs::Pieces::more_then), unfolding(crate::specs::Refused::refused_text, crate::specs::Refused::refused_line, rules::specs::Refusals::refusal_view))]
+pub fn put_refusal(out: &mut Part, s: &[u8], refused: Refusal)
+    ensures { out.new ≡ with_more out.old (refused_text s.now (refusal_view refused)) }
 {
-    let mut at = put_number_line(out, c, number, line);
-    if line == 0 {
-        return at;
+    put_number_line(out, refused);
+    if refused.line == 0 {
+        return;
     }
-    let l = line_of(s, line);
-    let i = field_of(horizon_of(s), number, line, l);
-    at = put_line(out, at, line, l);
-    put_field(out, at, line, l, i)
+    let line = Line::of(s, refused.line);
+    line.put(out);
+    line.put_field(out, line.field_of(refused.fault, horizon_of(s)));
 }

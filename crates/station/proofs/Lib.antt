@@ -1,6 +1,5 @@
 pub mod Sizes
 pub mod Unpacking
 pub mod Promise
+pub mod Pairs
 pub mod StartsExported
--- For the loop of `put_runs`.
-pub mod PutRuns

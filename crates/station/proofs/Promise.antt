@@ -9,7 +9,7 @@ use Rattle.rules.specs.Plan.{Plan}
 use Rattle.rules.specs.Reading.{accepted, refused, reading}
 use Rattle.rules.specs.Calls.{Filled, refusal, full, slice_after, refusing, filling, outcome_of, outcome_call, report_of, report_call, starts_of, starts_call}
 use Rattle.rules.specs.Demand.{Demand3}
-use Rattle.rules.specs.declared.Refusal.{Refusal}
+use Rattle.rules.specs.Refusals.{Refusal}
 use Rattle.rules.proofs.Demand.{demand3}
 use Rattle.calls.proofs.Running.{too_long, fitting}
 use Rattle.packing.specs.Packing.{packed, count_in}

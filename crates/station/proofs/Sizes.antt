@@ -24,7 +24,7 @@ use Rattle.rules.specs.Calls.{Filled, refusing, filling, report_of, report_call,
 use Rattle.rules.specs.Demand.{Right, placed_by, lines_by, report_by, RightAnswers, Demand3}
 use Rattle.rules.specs.declared.Outcome.{Outcome}
 use Rattle.rules.specs.declared.Outcome.TheVariants.{Placed, Refused}
-use Rattle.rules.specs.declared.Refusal.{Refusal}
+use Rattle.rules.specs.Refusals.{Refusal}
 use Rattle.rules.proofs.Accepted.{refused_fault, accepted_formed}
 use Rattle.rules.proofs.Demand.{demand3}
 use Rattle.rules.proofs.Decimal.{decimal_length}

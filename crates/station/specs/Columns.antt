@@ -1,17 +1,16 @@
--- Runs in two columns of numbers, and a slice of runs filled from them.
-use Rattle.std.specs.Prelude.{ℕ, zero, suc, ◌≤◌, ◌≡◌, List, map, length, get_or, set, take}
-use Rattle.rules.specs.Calls.{Filled}
+-- Runs in two columns of numbers.
+use Rattle.std.specs.Prelude.{ℕ, List, [], ◌∷◌, get_or}
 use Rattle.rules.specs.declared.Interval.{Interval}
-use Rattle.packing.specs.Packing.{packed}
 
--- a call answers r, and the columns begin with the firsts and the lasts of its runs
-pub record ColumnsHeld (f : Filled Interval) (r : ℕ) (firsts lasts : List ℕ) : Type 0 where
-  pub answer : r ≡ packed f.terms
-  pub few : length f.written ≤ 2048
-  pub firsts_held : take (length f.written) firsts ≡ map (λ run. run.first) f.written
-  pub lasts_held : take (length f.written) lasts ≡ map (λ run. run.last) f.written
+-- the runs that begin and end with these numbers
+abbrev pub pairs : List ℕ → List ℕ → List Interval
+pairs [] lasts = []
+pairs (u ∷ firsts) [] = []
+pairs (u ∷ firsts) (v ∷ lasts) = record { first = u; last = v } ∷ pairs firsts lasts
 
--- a list of runs with its first n replaced by those of two columns
-unfoldable pub filled : List ℕ → List ℕ → List Interval → ℕ → List Interval
-filled firsts lasts xs zero = xs
-filled firsts lasts xs (suc n) = set (filled firsts lasts xs n) n (record { first = get_or firsts n 0; last = get_or lasts n 0 })
+-- the run number k of them; what stands for none beyond the end of a list
+abbrev pub run_at : List ℕ → List ℕ → ℕ → Interval
+run_at firsts lasts k = record { first = get_or firsts k 0; last = get_or lasts k 0 }
+
+abbrev pub no_run : Interval
+no_run = record { first = 0; last = 0 }

@@ -2,5 +2,5 @@ pub mod Version
 pub mod Exported
 pub mod Unpacking
 pub mod Promise
--- For the contracts of `columns` and `put_runs`.
+-- For the contract of `put_runs`.
 pub mod Columns

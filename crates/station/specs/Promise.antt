@@ -6,7 +6,7 @@ use Rattle.rules.specs.Conditions.{all_conditions}
 use Rattle.rules.specs.Calls.{Filled, refusal, full, outcome_values, slice_after, report_call, starts_call}
 use Rattle.rules.specs.Demand.{report_by, RunsBy, RightAnswers}
 use Rattle.rules.specs.declared.Outcome.{Outcome}
-use Rattle.rules.specs.declared.Refusal.{Refusal}
+use Rattle.rules.specs.Refusals.{Refusal}
 use Rattle.rules.specs.declared.Interval.{Interval}
 use Rattle.packing.specs.Packing.{outcome_in, count_in}
 use Rattle.station.specs.Exported.{OutcomeExported, Exported}

@@ -10,6 +10,9 @@ mod intervals;
 
 const VERSION: u32 = 1;
 
+// The most runs that a plan's starts have.
+const RUNS: usize = 2048;
+
 // The version of the library (specs/Version.antt).
 pub fn planner_version() -> u32
     ensures { result ≡ version }
@@ -32,14 +35,16 @@ pub fn planner_report(plan: &[u8], out: &mut [u8]) -> u64
 }
 
 // The runs of starts of the activity at a place that meet a set of conditions, written to the front of `out`; answers
-// their count. Only numbers and slices are handled here: the answer comes packed from `columns`.
+// their count. They are asked for in two columns, as many as `out` has room for.
 pub fn planner_starts(plan: &[u8], place: usize, set: u32, out: &mut [Interval]) -> u64
     ensures { StartsExported plan.now place set out.old result out.new }
 {
-    let mut firsts = [0u32; 2048];
-    let mut lasts = [0u32; 2048];
-    let answer = intervals::columns(plan, place, set, out.len(), &mut firsts, &mut lasts);
-    let count = packing::written(answer);
-    intervals::put_runs(out, &firsts, &lasts, count);
-    answer
+    let mut firsts = [0; RUNS];
+    let mut lasts = [0; RUNS];
+    let room = out.len().min(RUNS);
+    let answer = calls::starts(plan, place, set, &mut firsts[..room], &mut lasts[..room]);
+    if let Ok(count) = answer {
+        intervals::put_runs(out, &firsts[..count], &lasts[..count]);
+    }
+    packing::pack_count(answer)
 }

@@ -5,6 +5,7 @@ use mathlib.Core.Bool.{Bool, true, false, cond, and-false}
 use mathlib.Core.List.{List, [], ◌∷◌, ◌++◌, append-nil}
 use Prim.Native.Nat.{ℕ, suc, ◌+◌, ◌≤◌, ◌<◌}
 use native.Mathlib.Nat.{zero-add, add-zero}
+use native.Mathlib.Numerals.{add-one}
 use native.Mathlib.Omega.{arith}
 use lib.ListN.{length, length-append}
 use lib.Seq.{append_snoc}
@@ -66,11 +67,11 @@ module _ {A : Type 0} (k : Kind A) where
               let full : k.most < length b + suc (length ps) = omega arith in
               simp (e, i, lt-leb _ _ full, and-false, found_again)
 
-          pub from_good : l ≤ k.low (k.item_of p) → k.low (k.item_of p) ≤ k.high (k.item_of p) → items_from k f l b (p ∷ ps) ≡ items_from k f (suc (k.high (k.item_of p))) (b ++ (k.item_of p ∷ [])) ps
+          pub from_good : l ≤ k.low (k.item_of p) → k.low (k.item_of p) ≤ k.high (k.item_of p) → items_from k f l b (p ∷ ps) ≡ items_from k f (k.high (k.item_of p) + 1) (b ++ (k.item_of p ∷ [])) ps
           unfolding items_from every rising
           from_good h m =
               let one : length (b ++ (k.item_of p ∷ [])) + length ps ≡ length b + suc (length ps) = simp length-append (omega arith) in
-              simp (e, i, one, le-leb _ _ h, le-leb _ _ m, append_snoc)
+              simp (add-one, e, i, one, le-leb _ _ h, le-leb _ _ m, append_snoc)
 
 -- ---- items of a form
 

@@ -39,14 +39,7 @@ pub fn read_number(s: &[u8]) -> Option<u64>
 pub fn decimal_len(x: u64) -> usize
     ensures { (result ≡ length (decimal x)) × (result ≤ 20) }
 {
-    // The number itself counts the steps.
-    let mut n = 1;
-    let mut y = x;
-    while 10 <= y {
-        y = y / 10;
-        n += 1;
-    }
-    n
+    x.max(1).ilog10() as usize + 1
 }
 
 // Writes the digits of x from at on, and answers the position after them.
@@ -56,13 +49,11 @@ pub fn put_number(out: &mut [u8], at: usize, x: u64) -> usize
     ensures out_after { out.new ≡ put out.old at (decimal x) }
 {
     let end = at + decimal_len(x);
-    let mut i = end;
     let mut y = x;
-    while 10 <= y {
-        i -= 1;
+    // By index: of the elements that `iter_mut` has lent out a proof knows nothing afterwards.
+    for i in (at..end).rev() {
         out[i] = b'0' + (y % 10) as u8;
-        y = y / 10;
+        y /= 10;
     }
-    out[at] = b'0' + y as u8;
     end
 }

@@ -1,5 +1,5 @@
 -- `Plan::activity` meets its contract.
-use Rattle.std.proofs.Common.{rules, arith, ◌≡◌, ◌<◌, length, sym, ◌∙◌}
+use Rattle.std.proofs.Common.{arith, sym, ◌∙◌}
 use Rattle.plan.proofs.Places.{place_count, place_is}
 use Rattle.plan.proofs.Plan.activity.Goals as goal
 

@@ -1,7 +1,5 @@
 -- `accessor::activity_in` meets its contract: a line that says an activity is read.
 use Rattle.std.proofs.Common.{◌≡◌, sym, ◌∙◌}
-use Rattle.rules.specs.Lines.{split_on}
-use Rattle.rules.specs.ActivityLine.{activity_of}
 use Rattle.rules.specs.Fields.{value}
 use Rattle.rules.specs.Refusals.{read_as}
 use Rattle.activity.specs.View.{header_view, activity_view}

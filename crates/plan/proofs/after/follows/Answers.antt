@@ -1,5 +1,5 @@
 -- `after::follows` meets its contract.
-use Rattle.std.proofs.Common.{◌≡◌, ◌∙◌, eqb, map, sym, ap}
+use Rattle.std.proofs.Common.{◌∙◌, eqb, sym, ap}
 use Rattle.std.specs.List.{list_any, list_all}
 use Rattle.rules.specs.Plan.{Activity}
 use Rattle.activity.specs.View.{activity_view, number_of}

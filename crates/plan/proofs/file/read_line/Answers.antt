@@ -1,5 +1,5 @@
 -- `file::read_line` meets its contract: check by check, the definition goes the same way.
-use Rattle.std.proofs.Common.{rules, arith, Err, ◌≡◌, ◌∙◌, ◌<◌, ◌≤◌, length, true, refl, sym}
+use Rattle.std.proofs.Common.{rules, arith, Err, ◌≡◌, ◌∙◌, true, refl, sym}
 use Rattle.rules.specs.Bytes.{bytes}
 use Rattle.rules.specs.Lines.{split_on}
 use Rattle.rules.specs.Fields.{value}

@@ -14,15 +14,15 @@ pub loop-at-init : goal.loop-at-init
 unfolding Rises
 loop-at-init c = rw c.new-lines.ensures (record { inside = omega arith; said = λ k d h. absurd (omega arith); rises = tt; before = λ k d h. absurd (omega arith); value = refl })
 
-pub returns-in_err-line-clause-value : goal.returns-in_err-line-clause-value
-returns-in_err-line-clause-value c =
+pub returns-in_err-next-clause-value : goal.returns-in_err-next-clause-value
+returns-in_err-next-clause-value c =
     let a = c.args in
     let h = header_view a.header in
     let l = c.loop-at in
-    let q = c.in_err-line.field-0.0 in
+    let q = c.in_err-next.field-0.0 in
     let m : Mapped (c.len.result + 2) c.read_line.result c.map_err.result = search rules in
     let r : c.from_residual.result ≡ Err q = search rules in
-    let e = mapped_err (c.len.result + 2) _ _ q m c.in_err-line.was in
+    let e = mapped_err (c.len.result + 2) _ _ q m c.in_err-next.was in
     l.invariant.value ∙ c.read_line.ensures.value ∙ rw (e.0, r) (line_refused h a.s.now l.lines (c.find-end.result + 1) q (e.1 ∙ ap (λ n. n + 2) c.len.ensures.value))
 
 pub loop-at-preserved : goal.loop-at-preserved
@@ -30,9 +30,9 @@ loop-at-preserved c =
     let a = c.args in
     let h = header_view a.header in
     let l = c.loop-at in
-    let line = c.in_ok-line.line in
+    let line = c.in_ok-next.next in
     let m : Mapped (c.len.result + 2) c.read_line.result c.map_err.result = search rules in
-    let e = mapped_ok (c.len.result + 2) _ _ line m c.in_ok-line.was in
+    let e = mapped_ok (c.len.result + 2) _ _ line m c.in_ok-next.was in
     let k = IfOk-at_ok (λ x. LineIn h a.s.now x × (x.at ≡ l.at) × (c.find-end.result < length a.s.now)) e c.read_line.ensures.line_in in
     rw c.push.ensures
     (record {

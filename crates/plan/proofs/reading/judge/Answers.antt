@@ -1,13 +1,12 @@
 -- `reading::judge` meets its contract: check by check, the definition goes the same way.
-use Rattle.std.proofs.Common.{arith, ◌≡◌, ◌∙◌, [], map, sym, ap}
+use Rattle.std.proofs.Common.{◌≡◌, ◌∙◌, [], map, sym, ap}
 use Rattle.std.proofs.Math.Option.{none}
 use Rattle.std.specs.Option.{unwrap_or}
-use Rattle.std.specs.List.{Contains}
 use Rattle.std.proofs.lemmas.List.Elements.{All-contains}
 use Rattle.rules.specs.Reading.{misplaced, no}
 use Rattle.activity.specs.View.{header_view}
 use Rattle.order.specs.Lines.{order_lines}
-use Rattle.plan.specs.Said.{said_by, LineIn, LinesIn}
+use Rattle.plan.specs.Said.{said_by, LineIn}
 use Rattle.plan.proofs.Ids.{line_is, line_found}
 use Rattle.plan.proofs.Ordering.{order_in}
 use Rattle.plan.proofs.Judging.{refused_view, accepted_view, judged_7, judged_9, judged_on}

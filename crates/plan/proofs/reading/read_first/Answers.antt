@@ -1,5 +1,5 @@
 -- `reading::read_first` meets its contract: check by check, the definition goes the same way.
-use Rattle.std.proofs.Common.{arith, ◌≡◌, ◌∙◌, sym}
+use Rattle.std.proofs.Common.{arith, ◌∙◌, sym}
 use Rattle.plan.specs.Reached.{first_from}
 use Rattle.plan.proofs.Judging.{first_ends, first_2, first_read}
 use Rattle.plan.proofs.reading.read_first.Goals as goal

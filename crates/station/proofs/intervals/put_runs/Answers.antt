@@ -1,20 +1,14 @@
--- A run more is put, and none at the start.
-use Rattle.std.proofs.Common.{arith, refl, ap, ◌∙◌, ◌≡◌}
-use Rattle.station.specs.Columns.{filled}
-use Rattle.station.proofs.PutRuns.{filled_one_more}
+-- All runs are put together.
+use Rattle.std.proofs.Common.{◌≡◌, List, arith, length, length-take-le, refl}
+use Rattle.rules.specs.Calls.{slice_after}
+use Rattle.station.specs.Columns.{pairs}
+use Rattle.station.proofs.Pairs.{pairs_are, pairs_length}
 use Rattle.station.proofs.intervals.put_runs.Goals as goal
 
-pub loop-i-init : goal.loop-i-init
-unfolding filled
-loop-i-init c = record { within = omega arith; put = refl }
-
-pub loop-i-preserved : goal.loop-i-preserved
-loop-i-preserved c = record {
-  within = omega arith;
-  put = rw c.loop-i.invariant.put (filled_one_more c.args.firsts.now c.args.lasts.now c.args.out.now c.loop-i.i);
-}
-
 pub returns : goal.returns
+unfolding slice_after
 returns c =
-    let i : c.loop-i.i ≡ c.args.count = omega arith in
-    c.loop-i.invariant.put ∙ ap (filled c.args.firsts.now c.args.lasts.now c.args.out.now) i
+    let us = c.args.firsts.now in
+    let vs = c.args.lasts.now in
+    let lent = length-take-le (length us) c.args.out.now c.requires.0 in
+    rw (pairs_are us vs c.loop-i.run-items c.loop-i.invariant.0 c.requires.1 (λ k l. c.loop-i.invariant.1 k (omega arith)), pairs_length us vs c.requires.1) refl

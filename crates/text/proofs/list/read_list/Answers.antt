@@ -25,4 +25,4 @@ returns-in_default-read_item g c =
 pub loop-part-preserved : goal.loop-part-preserved
 loop-part-preserved g c =
     let one = item_good _ _ _ _ (sym c.in-Some-read_item.ensures) in
-    c.loop-part.invariant ∙ rw c.in-Some.ensures (c.count_in.ensures _ _ one.0 one.1)
+    rw (← c.count_in.ensures _ _ one.0 one.1, ← c.in-Some.ensures) c.loop-part.invariant

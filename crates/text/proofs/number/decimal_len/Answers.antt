@@ -1,19 +1,9 @@
 -- `number::decimal_len` meets its contract.
-use mathlib.Core.Path.{ap}
-use native.Mathlib.Omega.{arith}
-use lib.ListN.{length, length-append}
-use Rattle.text.proofs.Decimal.{decimal_low, decimal_high, decimal_most}
+use Rattle.std.proofs.Common.{sym, arith}
+use Rattle.text.proofs.Decimal.{decimal_reaches}
 use Rattle.text.proofs.number.decimal_len.Goals as goal
-
-pub overflow_add-n : goal.overflow_add-n
-overflow_add-n c = omega (arith, decimal_most c.args.x (omega arith))
-
-pub loop-y-preserved : goal.loop-y-preserved
-loop-y-preserved c =
-    let y = c.loop-y.y in
-    omega (arith, simp length-append at (ap length (decimal_high y c.loop-y-test.true (omega arith))))
 
 pub returns : goal.returns
 returns c =
-    let y = c.loop-y.y in
-    omega (arith, decimal_most c.args.x (omega arith), ap length (decimal_low y c.loop-y-test.false))
+    let n = c.ilog10.ensures in
+    (sym (decimal_reaches c.ilog10.result c.args.x (rw c.max.ensures at n.power_le) (rw c.max.ensures at n.next_power_gt) (omega arith)), omega arith)

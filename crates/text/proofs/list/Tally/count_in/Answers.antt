@@ -1,5 +1,5 @@
 -- `list::Tally::count_in` meets its contract: each arm is one law.
-use Rattle.std.proofs.Common.{◌≡◌, ◌∙◌, true, cond, arith, refl, add-one}
+use Rattle.std.proofs.Common.{◌≡◌, true, arith}
 use Rattle.text.specs.Text.{item_of, kind_of}
 use Rattle.text.proofs.Items.{from_outside, from_back, from_turned, from_full, from_good, inside, outside_first, outside_second}
 use Rattle.text.proofs.list.Tally.count_in.Goals as goal
@@ -22,14 +22,13 @@ returns-then-a-self g c = λ p ps e i.
     let f = c.args.form in
     let a = c.args.a in
     let b = c.args.b in
-    let n = g.row.N in
-    let k = kind_of f n in
-    let in_range : k.in_range (item_of f.mark p) ≡ true = rw i (inside f n a b (omega arith) (omega arith)) in
-    let high : c.if-form.high ≡ cond f.spans b a = elim c.if-form.branch [ then-form w ↦ rw w.if-form.true w.high-is | else-form w ↦ rw w.if-form.false w.high-is ] in
+    let k = kind_of f g.row.N in
+    let in_range : k.in_range (item_of f.mark p) ≡ true = rw i (inside f g.row.N a b (omega arith) (omega arith)) in
+    let high : c.if-form.high ≡ k.high (item_of f.mark p) = rw i (elim c.if-form.branch [ then-form w ↦ rw w.if-form.true w.high-is | else-form w ↦ rw w.if-form.false w.high-is ]) in
     rw c.or-self.ensures
     (elim c.then-a-self.branch [
       | then-a-self-via-then-a-self w ↦ from_back k _ _ _ p ps e in_range (rw i (omega arith))
-      | then-a-self-via-else-a-self+then-high-a w ↦ from_turned k _ _ _ p ps e in_range (rw (i, ← high) (omega arith))
+      | then-a-self-via-else-a-self+then-high-a w ↦ from_turned k _ _ _ p ps e in_range (rw (← high, i) (omega arith))
       | then-a-self-via-else-a-self+else-high-a+then-len w ↦ from_full k _ _ _ p ps e in_range (omega arith)
     ])
 
@@ -38,8 +37,7 @@ returns g c = λ p ps e i.
     let f = c.args.form in
     let a = c.args.a in
     let b = c.args.b in
-    let n = g.row.N in
-    let k = kind_of f n in
-    let in_range : k.in_range (item_of f.mark p) ≡ true = rw i (inside f n a b (omega arith) (omega arith)) in
-    let high : c.if-form.high ≡ cond f.spans b a = elim c.if-form.branch [ then-form w ↦ rw w.if-form.true w.high-is | else-form w ↦ rw w.if-form.false w.high-is ] in
-    from_good k _ _ _ p ps e in_range (rw i (omega arith)) (rw (i, ← high) (omega arith)) ∙ rw (c.push.ensures, i, ← high, add-one) refl
+    let k = kind_of f g.row.N in
+    let in_range : k.in_range (item_of f.mark p) ≡ true = rw i (inside f g.row.N a b (omega arith) (omega arith)) in
+    let high : c.if-form.high ≡ k.high (item_of f.mark p) = rw i (elim c.if-form.branch [ then-form w ↦ rw w.if-form.true w.high-is | else-form w ↦ rw w.if-form.false w.high-is ]) in
+    rw (c.push.ensures, high, ← i) (from_good k _ _ _ p ps e in_range (rw i (omega arith)) (rw (← high, i) (omega arith)))

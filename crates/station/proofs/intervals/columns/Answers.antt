@@ -1,7 +1,0 @@
--- The columns are filled as the call fills them, and the answer is packed.
-use Rattle.station.proofs.StartsExported.{columns_held}
-use Rattle.station.proofs.intervals.columns.Goals as goal
-
-pub returns : goal.returns
-returns c =
-    columns_held _ _ _ _ _ c.within_columns-held.ensures _ _ _ _ c.requires.0 c.requires.1 _ c.starts-answer.ensures _ c.pack_count.ensures
