@@ -21,8 +21,7 @@ use Rattle.activity.specs.declared.Header.{Header as HeaderStruct}
 use Rattle.placed.specs.Tables.{row_in}
 use Rattle.placed.specs.declared.row.Row.{Row}
 use Rattle.placed.specs.Held.{TicksAt, AmountsAt, Rows}
-use Rattle.charge.specs.declared.draws.OwnDraw.{OwnDraw}
-use Rattle.charge.specs.Charge.{row_draw, draw_of, drawn_in, charge_next, charge_by, kept_by}
+use Rattle.charge.specs.Charge.{OwnDraw, row_draw, draw_of, drawn_in, charge_next, charge_by, kept_by}
 
 -- ---- by any draws that are the schedule's
 module _ (h : HeaderStruct) (draw : ℕ → ℕ) (placed : Schedule) (is : (t : ℕ) → draw t ≡ drawn (header_view h) placed t) where

@@ -17,8 +17,7 @@ use Rattle.placed.specs.declared.row.Row.{Row}
 use Rattle.placed.specs.Bounds.{AmountsBounded}
 use Rattle.placed.specs.Raised.{Raised}
 use Rattle.placed.proofs.Raising.{cond_most}
-use Rattle.charge.specs.declared.draws.OwnDraw.{OwnDraw}
-use Rattle.charge.specs.Charge.{row_draw, draw_of, drawn_in, kept_by, Drawing}
+use Rattle.charge.specs.Charge.{OwnDraw, row_draw, draw_of, drawn_in, kept_by, Drawing}
 
 -- raised by the heater's draw, then by its own
 pub raised_own : (o : OwnDraw) (old mid new : List ℕ) → Raised o.heat o.start o.heater old mid → Raised o.start o.end o.draw mid new → (t : ℕ) → get_or new t 0 ≡ draw_of o t + get_or old t 0

@@ -6,13 +6,24 @@ use Rattle.rules.specs.MeetsB.{smaller}
 use Rattle.activity.specs.declared.Header.{Header as HeaderStruct}
 use Rattle.placed.specs.Tables.{row_in}
 use Rattle.placed.specs.declared.row.Row.{Row}
-use Rattle.charge.specs.declared.draws.OwnDraw.{OwnDraw}
+use Rattle.charge.specs.declared.own.OwnDraw.{OwnDraw as OwnStruct}
+
+-- what one activity draws: the heater's draw from `heat` to before `start`, its own from there to before `end`
+pub record OwnDraw : Type 0 where
+  pub heat : ℕ
+  pub start : ℕ
+  pub end : ℕ
+  pub draw : ℕ
+  pub heater : ℕ
+
+abbrev pub own_view : OwnStruct → OwnDraw
+own_view o = record { heat = o.heat; start = o.start; end = o.end; draw = o.draw; heater = o.heater }
 
 -- the activity of a row
 abbrev pub row_draw : HeaderStruct → Row → OwnDraw
 row_draw h row = record { heat = row.heat; start = row.start; end = row.end; draw = row.draw; heater = h.heater }
 
--- what it draws at tick t
+-- what an activity draws at tick t
 unfoldable pub draw_of : OwnDraw → ℕ → ℕ
 draw_of o t = cond (ltb t o.start) (cond (leb o.heat t) o.heater 0) (cond (ltb t o.end) o.draw 0)
 

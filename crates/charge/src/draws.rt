@@ -1,24 +1,16 @@
 // What is drawn in each tick: by one activity and its heater, and by the placed.
 ghost use Rattle.std.specs.Prelude.{◌≡◌, ℕ, ◌+◌, ◌<◌, ◌≤◌, length, get_or};
 ghost use Rattle.placed.specs.Bounds.{TicksBounded, AmountsBounded};
-ghost use Rattle.charge.specs.Charge.{row_draw, draw_of, drawn_in};
+ghost use Rattle.charge.specs.Charge.{own_view, row_draw, draw_of, drawn_in};
 
+use crate::own::OwnDraw;
 use activity::Header;
 use placed::{Placed, Row, raise_ticks};
 
-// What one activity draws: the heater's draw from `heat` to before `start`, its own from there to before `end`.
-#[derive(Clone, Copy)]
-pub struct OwnDraw {
-    pub heat: usize,
-    pub start: usize,
-    pub end: usize,
-    pub draw: u32,
-    pub heater: u32,
-}
-
 // What the activity of a row draws.
 fn row_draw(header: Header, row: &Row) -> OwnDraw
-    ensures { result ≡ row_draw header row.now }
+    requires { (row.now.heat ≤ row.now.start) × (row.now.start ≤ row.now.end) }
+    ensures { own_view result ≡ row_draw header row.now }
 {
     OwnDraw {
         heat: usize::from(row.heat),
@@ -32,9 +24,9 @@ fn row_draw(header: Header, row: &Row) -> OwnDraw
 // Adds what one activity draws to the draws in its ticks.
 #[tactic(auto, using(crate::proofs::Drawn::raised_own))]
 fn add_draw(draws: &mut [u32], own: OwnDraw)
-    requires heat_le_start { (own.heat ≤ own.start) × (own.start ≤ own.end) × (own.end ≤ length draws.old) }
+    requires known { own.end ≤ length draws.old }
     requires small_draws { (t : ℕ) → get_or draws.old t 0 + own.draw + own.heater < 4294967296 }
-    ensures { (t : ℕ) → get_or draws.new t 0 ≡ draw_of own t + get_or draws.old t 0 }
+    ensures { (t : ℕ) → get_or draws.new t 0 ≡ draw_of (own_view own) t + get_or draws.old t 0 }
 {
     raise_ticks(draws, own.heat, own.start, own.heater);
     raise_ticks(draws, own.start, own.end, own.draw);

@@ -1,7 +1,9 @@
 #![tactic(auto)]
 // The charge: what is drawn in each tick, the charge run on by it, the last charge of a schedule and refusal 9.
 pub mod draws;
+pub mod own;
 pub mod run;
+pub mod sums;
 
 ghost use Rattle.std.specs.Prelude.{◌≡◌, true, pos};
 ghost use Rattle.rules.specs.WellFormed.{HeaderFormed};
@@ -15,6 +17,7 @@ use draws::add_placed;
 use placed::Placed;
 use rules::TICKS;
 use run::{run_through, step};
+use sums::Drawn;
 
 // The charge at the horizon with the placed alone; it is at least the floor.
 pub fn last_charge(header: Header, placed: &Placed) -> u64
@@ -24,7 +27,11 @@ pub fn last_charge(header: Header, placed: &Placed) -> u64
 {
     let mut draws = [0u32; TICKS];
     add_placed(header, placed, &mut draws);
-    run_through(&draws, header) as u64
+    let drawn = Drawn {
+        header,
+        draws: &draws,
+    };
+    run_through(&drawn) as u64
 }
 
 // Refusal 9: whether the charge at the horizon with nothing placed is under the handover charge.

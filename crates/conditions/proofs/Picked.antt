@@ -6,23 +6,27 @@ use mathlib.Core.Bool.{Bool, true}
 use mathlib.Core.List.{List}
 use native.Mathlib.Omega.{arith}
 use lib.Dec.{leb}
-use lib.ListN.{length, get_or, take}
+use lib.ListN.{length, get_or}
+use Rattle.std.proofs.Common.{map}
+use Rattle.std.proofs.lemmas.List.{length-map, take_all}
 use Rattle.rules.specs.Plan.{Header, Activity, Schedule}
-use Rattle.rules.specs.Tests.{total}
+use Rattle.rules.specs.Tests.{total, every}
 use Rattle.rules.specs.Conditions.{condition_count, all_conditions, conditions, meets}
 use Rattle.rules.specs.Outcomes.{starts}
+use Rattle.rules.specs.WellFormed.{HeaderFormed}
 use Rattle.rules.specs.Warmup.{warmup, warmup_at}
 use Rattle.rules.specs.MeetsW.{allowed, meets_w}
-use Rattle.rules.specs.MeetsD.{meets_d}
+use Rattle.rules.specs.MeetsD.{ended_by, meets_d}
 use Rattle.rules.specs.MeetsV.{total_volume, volume_kept, meets_v}
 use Rattle.rules.specs.MeetsH.{meets_h}
-use Rattle.activity.specs.View.{windows_view, header_view, activity_view}
+use Rattle.activity.specs.View.{window_of, number_of, header_view, activity_view}
 use Rattle.activity.specs.declared.Header.{Header as HeaderStruct}
 use Rattle.activity.specs.declared.Activity.{Activity as ActivityStruct}
 use Rattle.sets.specs.Sets.{bit_of}
 use Rattle.sets.specs.Table.{Marked, Markable}
 use Rattle.sets.proofs.Bits.{bit_is}
 use Rattle.sets.proofs.Marking.{same_marked}
+use Rattle.placed.specs.declared.row.Row.{Row}
 use Rattle.placed.specs.Tables.{engines_at, peak_at, draw_at, volume_at, volumes_in}
 use Rattle.placed.specs.Held.{TicksAt, AmountsAt, Rows}
 use Rattle.placed.specs.Bounds.{TicksBounded, AmountsBounded, SettingsBounded}
@@ -47,75 +51,94 @@ picked h placed a c k by n old new test l e b f m =
     subst (λ (x : ℕ). Marked (meets h placed a c) x n old new) (b ∙ bit_is c l)
     (same_marked (meets h placed a c) by test n old new (λ s j. f s j ∙ ap (λ (x : ℕ). meets h placed a x s) (sym e)) m)
 
-module _ (h : HeaderStruct) (a : ActivityStruct) (ticks amounts settings units : List ℕ) (n count : ℕ) (e : count ≡ starts (header_view h) (activity_view a)) (placed : Schedule) (B : Beside h a ticks amounts settings units n placed) where
-  -- ---- what the tests need
-  pub ticks_ok : TicksBounded ticks n
-  ticks_ok = ticks_bounded_lem (header_view h) ticks amounts settings units n placed B.held B.reached (omega (arith, B.few))
-
-  pub amounts_ok : AmountsBounded amounts (n + 1)
-  amounts_ok = amounts_beside (header_view h) ticks amounts settings units n placed B.held B.reached (activity_view a) B.row B.candidate
-
-  pub settings_ok : SettingsBounded settings (n + 1)
-  settings_ok = settings_beside (header_view h) ticks amounts settings units n placed B.held B.reached (activity_view a) B.row B.candidate
-
+-- what the tests need
+pub record Needs (h : HeaderStruct) (a : ActivityStruct) (rows : List Row) (n count : ℕ) : Type 0 where
+  pub few : n < 64
+  pub ticks : TicksBounded rows n
+  pub amounts : AmountsBounded rows (n + 1)
+  pub settings : SettingsBounded rows (n + 1)
+  pub header : HeaderFormed (header_view h)
+  pub kept : kept_by h (drawn_in h rows n) ≡ true
   -- the candidate lasts at least a tick, and its last start ends with the plan
   pub lasts : 1 ≤ a.duration
+  pub count_few : count + a.duration ≤ 4097
+  pub count_end : count + a.duration ≤ h.horizon + 1
+  pub markable : (by : ℕ) (table : List ℕ) → by ≤ all_conditions → count ≤ length table → ((k : ℕ) → get_or table k 0 ≤ all_conditions) → Markable by count table
+
+module _ (h : HeaderStruct) (a : ActivityStruct) (rows : List Row) (n count : ℕ) (e : count ≡ starts (header_view h) (activity_view a)) (placed : Schedule) (B : Beside h a rows n placed) where
+  ticks_ok : TicksBounded rows n
+  ticks_ok = ticks_bounded_lem (header_view h) rows n placed B.held B.reached (omega (arith, B.few))
+
+  amounts_ok : AmountsBounded rows (n + 1)
+  amounts_ok = amounts_beside (header_view h) rows n placed B.held B.reached (activity_view a) B.row B.candidate
+
+  settings_ok : SettingsBounded rows (n + 1)
+  settings_ok = settings_beside (header_view h) rows n placed B.held B.reached (activity_view a) B.row B.candidate
+
+  lasts : 1 ≤ a.duration
   unfolding activity_view
   lasts = B.candidate.duration.0
 
-  pub count_end : count + a.duration ≤ h.horizon + 1
+  count_end : count + a.duration ≤ h.horizon + 1
   unfolding starts header_view activity_view
   count_end = omega (arith, B.candidate.duration.1)
 
-  pub count_few : count + a.duration ≤ 4097
+  count_few : count + a.duration ≤ 4097
   unfolding header_view
   count_few = omega (arith, count_end, B.reached.header.horizon.1)
 
-  pub markable : (by : ℕ) (table : List ℕ) → by ≤ all_conditions → count ≤ length table → ((k : ℕ) → get_or table k 0 ≤ all_conditions) → Markable by count table
+  markable : (by : ℕ) (table : List ℕ) → by ≤ all_conditions → count ≤ length table → ((k : ℕ) → get_or table k 0 ≤ all_conditions) → Markable by count table
   markable by table b l f = record { few = omega (arith, lasts, count_few); long = l; free = λ k. omega (arith, f k) }
 
-  charged : Rows (λ i x. TicksAt (header_view h) ticks i x × AmountsAt amounts i x.activity) n placed
+  charged : Rows (λ i x. TicksAt (header_view h) rows i x × AmountsAt rows i x.activity) n placed
   charged = rows_map _ _ n placed (λ i x k m r. (r.ticks_say, r.row.amounts_say)) B.held
 
-  pub kept_ok : kept_by h (drawn_in h ticks amounts n) ≡ true
-  kept_ok = charge_kept_lem h ticks amounts n placed charged ∙ B.reached.kept.charge
+  kept_ok : kept_by h (drawn_in h rows n) ≡ true
+  kept_ok = charge_kept_lem h rows n placed charged ∙ B.reached.kept.charge
+
+  pub needs : Needs h a rows n count
+  needs = record { few = B.few; ticks = ticks_ok; amounts = amounts_ok; settings = settings_ok; header = B.reached.header; kept = kept_ok; lasts = lasts; count_few = count_few; count_end = count_end; markable = markable }
 
   -- ---- each test is its condition
   ends : (s : ℕ) → s < count → s + (activity_view a).duration ≤ (header_view h).horizon
   unfolding activity_view header_view
   ends s k = omega (arith, count_end)
 
-  pub windows_are : (s : ℕ) → s < count → allowed (take a.window_count (windows_view a.window_from a.window_to)) s ≡ meets (header_view h) placed (activity_view a) 0 s
+  pub windows_are : (s : ℕ) → s < count → allowed (map window_of a.windows) s ≡ meets (header_view h) placed (activity_view a) 0 s
   unfolding meets conditions meets_w activity_view
   windows_are s k = refl
 
-  pub after_are : a.after_count ≤ length a.after → (s : ℕ) → s < count → leb (ready_from ticks n a.after a.after_count) s ≡ meets (header_view h) placed (activity_view a) 1 s
+  pub after_are : (s : ℕ) → s < count → leb (ready_from rows n (map number_of a.after) (length a.after)) s ≡ meets (header_view h) placed (activity_view a) 1 s
   unfolding meets conditions meets_d activity_view
-  after_are l s k = ready_is (header_view h) ticks n placed (rows_map _ _ n placed (λ i x k m r. r.ticks_say) B.held) a.after a.after_count s (omega (arith, count_few)) l
+  after_are s k =
+      let ids = map number_of a.after in
+      let long : length ids ≡ length a.after = length-map a.after number_of in
+      ready_is (header_view h) rows n placed (rows_map _ _ n placed (λ i x k m r. r.ticks_say) B.held) ids (length a.after) s (omega (arith, count_few)) (omega arith)
+      ∙ ap (λ (l : List ℕ). every (ended_by placed s) l) (take_all (length a.after) ids (omega arith))
 
-  pub units_are : (s : ℕ) → s < count → clear_for (fits (load_in ticks (sharing units n) n) 0 0) a.duration s ≡ meets (header_view h) placed (activity_view a) 2 s
+  pub units_are : (s : ℕ) → s < count → clear_for (fits (load_in rows (sharing rows n) n) 0 0) a.duration s ≡ meets (header_view h) placed (activity_view a) 2 s
   unfolding meets conditions activity_view
-  units_are s k = units_meet (header_view h) ticks units n placed (activity_view a) (rows_map _ _ n placed (λ i x k m r. (r.ticks_say, r.row.units_say)) B.held) B.row.units_say B.reached B.candidate s (ends s k)
+  units_are s k = units_meet (header_view h) rows n placed (activity_view a) (rows_map _ _ n placed (λ i x k m r. (r.ticks_say, r.row.units_say)) B.held) B.row.units_say B.reached B.candidate s (ends s k)
 
-  pub state_is : (s : ℕ) → s < count → state_met ticks settings n a.duration s ≡ meets (header_view h) placed (activity_view a) 3 s
+  pub state_is : (s : ℕ) → s < count → state_met rows n a.duration s ≡ meets (header_view h) placed (activity_view a) 3 s
   unfolding meets conditions activity_view
-  state_is s k = state_meets (header_view h) ticks settings n placed (activity_view a) (rows_map _ _ n placed (λ i x k m r. (r.ticks_say, r.row.settings_say)) B.held) B.row.settings_say B.reached B.candidate s (ends s k)
+  state_is s k = state_meets (header_view h) rows n placed (activity_view a) (rows_map _ _ n placed (λ i x k m r. (r.ticks_say, r.row.settings_say)) B.held) B.row.settings_say B.reached B.candidate s (ends s k)
 
-  pub engines_are : (s : ℕ) → s < count → clear_for (fits (load_in ticks (engines_at amounts) n) (engines_at amounts n) h.engines) a.duration s ≡ meets (header_view h) placed (activity_view a) 4 s
+  pub engines_are : (s : ℕ) → s < count → clear_for (fits (load_in rows (engines_at rows) n) (engines_at rows n) h.engines) a.duration s ≡ meets (header_view h) placed (activity_view a) 4 s
   unfolding meets conditions header_view activity_view
-  engines_are s k = engines_meet (header_view h) ticks amounts n placed (activity_view a) charged B.row.amounts_say B.reached B.candidate s (ends s k)
+  engines_are s k = engines_meet (header_view h) rows n placed (activity_view a) charged B.row.amounts_say B.reached B.candidate s (ends s k)
 
-  pub peaks_are : (s : ℕ) → s < count → clear_for (fits (load_in ticks (peak_at amounts) n) (peak_at amounts n) h.peak) a.duration s ≡ meets (header_view h) placed (activity_view a) 5 s
+  pub peaks_are : (s : ℕ) → s < count → clear_for (fits (load_in rows (peak_at rows) n) (peak_at rows n) h.peak) a.duration s ≡ meets (header_view h) placed (activity_view a) 5 s
   unfolding meets conditions header_view activity_view
-  peaks_are s k = peaks_meet (header_view h) ticks amounts n placed (activity_view a) charged B.row.amounts_say B.reached B.candidate s (ends s k)
+  peaks_are s k = peaks_meet (header_view h) rows n placed (activity_view a) charged B.row.amounts_say B.reached B.candidate s (ends s k)
 
-  pub charge_is : (s : ℕ) → s < count → kept_at h (drawn_in h ticks amounts n) a.duration (draw_at amounts n) a.warm s ≡ meets (header_view h) placed (activity_view a) 6 s
+  pub charge_is : (s : ℕ) → s < count → kept_at h (drawn_in h rows n) a.duration (draw_at rows n) a.warm s ≡ meets (header_view h) placed (activity_view a) 6 s
   unfolding meets conditions activity_view
-  charge_is s k = charge_meets h ticks amounts n placed charged (activity_view a) B.row.amounts_say s
+  charge_is s k = charge_meets h rows n placed charged (activity_view a) B.row.amounts_say s
 
-  pub volume_is : (s : ℕ) → s < count → leb (volume_at amounts n + volumes_in amounts n) h.volume ≡ meets (header_view h) placed (activity_view a) 7 s
+  pub volume_is : (s : ℕ) → s < count → leb (volume_at rows n + volumes_in rows n) h.volume ≡ meets (header_view h) placed (activity_view a) 7 s
   unfolding meets conditions meets_v volume_kept total_volume total header_view
-  volume_is s k = rw (B.row.amounts_say.volume, volumes_are amounts n placed (rows_map _ _ n placed (λ i x k m r. r.row.amounts_say) B.held)) refl
+  volume_is s k = rw (B.row.amounts_say.volume, volumes_are rows n placed (rows_map _ _ n placed (λ i x k m r. r.row.amounts_say) B.held)) refl
 
   pub warmup_is : (s : ℕ) → s < count → leb (warmup_at h.minute s a.warm) s ≡ meets (header_view h) placed (activity_view a) 8 s
   unfolding meets conditions meets_h warmup header_view activity_view

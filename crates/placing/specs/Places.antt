@@ -4,7 +4,7 @@ use Rattle.rules.specs.Order.{order}
 use Rattle.rules.specs.WellFormed.{HeaderFormed, ActivityFormed, Reachable}
 use Rattle.rules.specs.Conditions.{meets}
 use Rattle.rules.specs.Outcomes.{no_activity, starts, activity_at, placed, outcome}
-use Rattle.rules.specs.declared.Outcome.TheVariants.{Refused}
+use Rattle.rules.specs.declared.Outcome.TheVariants.{Placed}
 use Rattle.activity.specs.View.{header_view}
 use Rattle.plan.specs.View.{plan_view}
 use Rattle.plan.specs.declared.Plan.{Plan as PlanStruct}
@@ -25,7 +25,7 @@ pub record PlacedTo (p : PlanStruct) (k : ℕ) (x : Placing) : Type 0 where
   pub held : Held (plan_view p).header x.placed.rows x.placed.count (placed (plan_view p) k)
   pub few : x.placed.count ≤ k
   pub reached : Reached (plan_view p).header (placed (plan_view p) k)
-  pub answered : (i : ℕ) → i < k → get_or x.answers i (Refused 0) ≡ outcome (plan_view p) i
+  pub answered : (i : ℕ) → i < k → get_or x.answers i (Placed 0) ≡ outcome (plan_view p) i
 
 -- the table has the sets of conditions that the starts of the activity at place k meet, beside those placed at earlier places
 abbrev pub TableAt : PlanStruct → ℕ → List ℕ → Type 0

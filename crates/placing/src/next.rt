@@ -3,7 +3,7 @@ ghost use Rattle.std.specs.Prelude.{◌≡◌, ℕ, ◌+◌, ◌≤◌, ◌<◌,
 ghost use Rattle.rules.specs.Plan.{Schedule};
 ghost use Rattle.rules.specs.Conditions.{meets};
 ghost use Rattle.rules.specs.Outcomes.{starts, reply, added};
-ghost use Rattle.rules.specs.declared.Outcome.TheVariants.{Placed};
+ghost use Rattle.rules.specs.declared.Outcome.TheVariants.{Placed as PlacedFrom};
 ghost use Rattle.activity.specs.View.{header_view, activity_view};
 ghost use Rattle.plan.specs.View.{plan_view};
 ghost use Rattle.sets.specs.Table.{Table};
@@ -44,12 +44,12 @@ fn reply_to(header: Header, candidate: &Activity, placed: &Placed, table: &mut [
 {
     conditions::fill(header, candidate, placed, table);
     let count = conditions::start_count(header, candidate);
-    reply_by(table, count, candidate.preferred)
+    reply_by(&table[..count as usize], candidate.preferred)
 }
 
 // Puts the candidate with the placed if it is answered as placed.
 fn put_if_placed(header: Header, candidate: &Activity, outcome: Outcome, placed: &mut Placed)
-    requires { (placed.old.count < 64) × (candidate.now.id ≤ 65535) × ((s : ℕ) → outcome ≡ Placed s → s + candidate.now.duration ≤ 4096) }
+    requires { (placed.old.count < 64) × (candidate.now.id ≤ 65535) × ((s : ℕ) → outcome ≡ PlacedFrom s → s + candidate.now.duration ≤ 4096) }
     ensures counted { placed.new.count ≤ placed.old.count + 1 }
     ensures held { (before : Schedule) → CandidateAt placed.old.rows placed.old.count (activity_view candidate.now) → Held (header_view header) placed.old.rows placed.old.count before → Held (header_view header) placed.new.rows placed.new.count (added outcome (activity_view candidate.now) before) }
 {

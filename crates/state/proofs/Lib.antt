@@ -1,5 +1,5 @@
 pub mod Loops
-pub mod CodesTable
-pub mod SpoilsTable
+pub mod Needs
+pub mod Entries
 pub mod Added
 pub mod StateMeets

@@ -1,5 +1,6 @@
--- The value of a variable that stands at a tick, by the rows of the tables; a value as its code, one more than it.
+-- The value of a variable that stands at a tick, by the rows; a value as its code, one more than it.
 use Rattle.std.specs.Prelude.{ℕ, zero, suc, cond, ◌&&◌, not, List, leb, eqb}
+use Rattle.placed.specs.declared.row.Row.{Row}
 use Rattle.placed.specs.Tables.{end_at, set_at}
 use Rattle.state.specs.declared.standing.StandingValue.{StandingValue}
 
@@ -8,6 +9,6 @@ unfoldable pub later_value : ℕ → ℕ → ℕ → StandingValue → StandingV
 later_value end code t b = cond (not (eqb code 0) && leb end t && leb b.since end) (record { since = end; code = code }) b
 
 -- the value of v that stands at tick t by the sets of the first n rows; a variable is 0 at tick 0
-unfoldable pub standing_by : List ℕ → List ℕ → ℕ → ℕ → ℕ → StandingValue
-standing_by ticks settings v t zero = record { since = 0; code = 1 }
-standing_by ticks settings v t (suc n) = later_value (end_at ticks n) (set_at settings n v) t (standing_by ticks settings v t n)
+unfoldable pub standing_by : List Row → ℕ → ℕ → ℕ → StandingValue
+standing_by rows v t zero = record { since = 0; code = 1 }
+standing_by rows v t (suc n) = later_value (end_at rows n) (set_at rows n v) t (standing_by rows v t n)

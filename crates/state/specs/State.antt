@@ -1,12 +1,16 @@
--- The test of S over the tables: row n is the candidate's, the rows before it are those of the placed.
-use Rattle.std.specs.Prelude.{ℕ, ◌+◌, Bool, ◌&&◌, List}
+-- The test of S over the rows: row n is the candidate's, the rows before it are those of the placed.
+use Rattle.std.specs.Prelude.{ℕ, ◌+◌, Bool, ◌&&◌, List, length}
+use Rattle.placed.specs.declared.row.Row.{Row}
+use Rattle.placed.specs.Tables.{end_at}
+use Rattle.state.specs.declared.judged.Judged.{Judged}
 use Rattle.state.specs.Own.{own_met}
 use Rattle.state.specs.Spoils.{spoil_at, placed_met}
+use Rattle.state.specs.Judging.{end_in, spoil_in}
 
--- all needs are met with the candidate at the start s, those of the first `rows` by the first ticks that `spoil` says
-unfoldable pub needs_met : List ℕ → List ℕ → ℕ → (ℕ → ℕ → ℕ) → ℕ → ℕ → ℕ → Bool
-needs_met ticks settings n spoil rows duration s = own_met ticks settings n s (s + duration) && placed_met spoil ticks rows (s + duration)
+-- all needs are met with the candidate at the start s, of the placed those of these entries
+unfoldable pub needs_met : List Row → ℕ → List Judged → ℕ → ℕ → Bool
+needs_met rows n entries duration s = own_met rows n s (s + duration) && placed_met (spoil_in entries) (end_in entries) (length entries) (s + duration)
 
 -- with those of all rows
-unfoldable pub state_met : List ℕ → List ℕ → ℕ → ℕ → ℕ → Bool
-state_met ticks settings n duration s = needs_met ticks settings n (spoil_at ticks settings n) n duration s
+unfoldable pub state_met : List Row → ℕ → ℕ → ℕ → Bool
+state_met rows n duration s = own_met rows n s (s + duration) && placed_met (spoil_at rows n) (end_at rows) n (s + duration)

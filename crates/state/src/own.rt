@@ -1,143 +1,61 @@
 // The candidate's own needs, at its start and wherever a placed activity ends inside it.
-ghost use Rattle.std.specs.Prelude.{◌≡◌, ◌+◌, ◌<◌, length};
-ghost use Rattle.placed.specs.Tables.{need_variable_at, need_code_at};
+ghost use Rattle.std.specs.Prelude.{◌≡◌, ◌+◌, ◌<◌, ◌≤◌, ◌&&◌, not, eqb, leb, ltb};
 ghost use Rattle.placed.specs.Bounds.{SettingsBounded};
 ghost use Rattle.state.specs.Standing.{standing_by};
-ghost use Rattle.state.specs.Own.{change_at, code_at_end, unmet_at, judged, own_met, CodesRight};
+ghost use Rattle.state.specs.Own.{code_of_need, own_met};
+ghost use Rattle.state.specs.Judging.{JudgedRight};
 
-use crate::rows::{NEED_CELLS, end_at, need_code_at, need_variable_at};
+use crate::judged::Judged;
 use crate::standing::standing_at;
-use placed::{SETTING_CELLS, TICK_CELLS};
+use placed::{Need, Placed};
 
-// The tick number `k` at which a need is judged: the end of a placed activity, or the start.
-fn change_at(ticks: &[u16; TICK_CELLS], n: usize, k: usize, start: u16) -> u16
-    requires { n < 64 }
-    ensures { result ≡ change_at ticks.now n k start }
+// The code that stands of the variable of a need; 0 where there is no such need.
+#[tactic(auto, unfolding(crate::specs::Own::code_of_need))]
+pub fn code_of_need(placed: &Placed, need: Need, tick: u16) -> u16
+    requires { (placed.now.count ≤ 64) × (need.variable < 8) }
+    ensures { result ≡ code_of_need placed.now.rows placed.now.count need tick }
 {
-    if k < n {
-        return end_at(ticks, k);
-    }
-    start
-}
-
-// The code that stands of the variable of need number `j` of row `n` at the end of row `k`; 0 where there is no such need.
-fn code_at_end<'a>(
-    ticks: &'a [u16; TICK_CELLS],
-    settings: &'a [u16; SETTING_CELLS],
-    n: usize,
-    j: usize,
-    k: usize,
-) -> u16
-    requires { (n < 64) × (k < n) × (j < 4) × SettingsBounded settings.now (n + 1) }
-    ensures { result ≡ code_at_end ticks.now settings.now n j k }
-{
-    if need_code_at(settings, n, j) == 0 {
+    if need.code == 0 {
         return 0;
     }
-    let variable = need_variable_at(settings, n, j);
-    let standing = standing_at(ticks, settings, n, variable, end_at(ticks, k));
-    standing.code
+    standing_at(placed, need.variable, tick).code
 }
 
-// Writes the codes that stand at the ends of the first `n`, four to an activity, one for each need of row `n`.
-pub fn fill_codes<'a>(
-    ticks: &'a [u16; TICK_CELLS],
-    settings: &'a [u16; SETTING_CELLS],
-    n: usize,
-    codes: &mut [u16; NEED_CELLS],
-)
-    requires { (n < 64) × SettingsBounded settings.now (n + 1) × (length codes.old ≡ 256) }
-    ensures { CodesRight ticks.now settings.now n codes.new }
+// Whether a need of this code is unmet at a tick at which another may stand, if that is before `end` and not before `start`.
+fn is_unmet(need: u16, standing: u16, tick: u16, start: u16, end: u16) -> bool
+    ensures { result ≡ (leb start tick && ltb tick end && not (eqb standing need)) }
 {
-    for k in 0..n * 4 {
-        codes[k] = code_at_end(ticks, settings, n, k % 4, k / 4);
-    }
+    start <= tick && tick < end && standing != need
 }
 
-// The code that stands of the variable of need number `j` of row `n` at the tick number `k`.
-fn code_at<'a>(
-    ticks: &'a [u16; TICK_CELLS],
-    settings: &'a [u16; SETTING_CELLS],
-    codes: &'a [u16; NEED_CELLS],
-    n: usize,
-    j: usize,
-    start: u16,
-    k: usize,
-) -> u16
-    requires n_bound { (n < 64) × (j < 4) × SettingsBounded settings.now (n + 1) }
-    requires codes_right { CodesRight ticks.now settings.now n codes.now × (0 < need_code_at settings.now n j) }
-    ensures { result ≡ (standing_by ticks.now settings.now (need_variable_at settings.now n j) (change_at ticks.now n k start) n).code }
+// Whether a need of the candidate is unmet at its start.
+fn unmet_at_start(placed: &Placed, need: Need, start: u16, end: u16) -> bool
+    requires { (placed.now.count ≤ 64) × (need.variable < 8) }
+    ensures { result ≡ (ltb start end && not (eqb (standing_by placed.now.rows need.variable start placed.now.count).code need.code)) }
 {
-    if k < n {
-        return codes[k * 4 + j];
-    }
-    let variable = need_variable_at(settings, n, j);
-    let standing = standing_at(ticks, settings, n, variable, start);
-    standing.code
+    start < end && standing_at(placed, need.variable, start).code != need.code
 }
 
-// Whether need number `j` of row `n` is unmet at the tick number `k`, if that is before `end` and not before `start`.
-fn unmet_at<'a>(
-    ticks: &'a [u16; TICK_CELLS],
-    settings: &'a [u16; SETTING_CELLS],
-    codes: &'a [u16; NEED_CELLS],
-    n: usize,
-    j: usize,
-    start: u16,
-    end: u16,
-    k: usize,
-) -> bool
-    requires n_bound { (n < 64) × (j < 4) × SettingsBounded settings.now (n + 1) }
-    requires codes_right { CodesRight ticks.now settings.now n codes.now × (0 < need_code_at settings.now n j) }
-    ensures { result ≡ unmet_at ticks.now settings.now n j start end k }
-{
-    let t = change_at(ticks, n, k, start);
-    if t < start {
-        return false;
-    }
-    if end <= t {
-        return false;
-    }
-    let code = code_at(ticks, settings, codes, n, j, start, k);
-    code != need_code_at(settings, n, j)
-}
-
-// At how many ticks need number `j` of row `n` is judged: at none where there is no such need.
-fn judged_ticks(settings: &[u16; SETTING_CELLS], n: usize, j: usize) -> usize
-    requires { (n < 64) × (j < 4) }
-    ensures { result ≡ judged settings.now n j }
-{
-    if need_code_at(settings, n, j) == 0 {
-        return 0;
-    }
-    n + 1
-}
-
-// Whether the needs of row `n` are met from `start` to before `end`.
-pub fn own_needs_met<'a>(
-    ticks: &'a [u16; TICK_CELLS],
-    settings: &'a [u16; SETTING_CELLS],
-    codes: &'a [u16; NEED_CELLS],
-    n: usize,
-    start: u16,
-    end: u16,
-) -> bool
-    requires { (n < 64) × SettingsBounded settings.now (n + 1) × CodesRight ticks.now settings.now n codes.now }
-    ensures { result ≡ own_met ticks.now settings.now n start end }
+// Whether the needs of the candidate are met from `start` to before `end`.
+pub fn own_needs_met(placed: &Placed, entries: &[Judged], start: u16, end: u16) -> bool
+    requires { (placed.now.count < 64) × SettingsBounded placed.now.rows (placed.now.count + 1) × JudgedRight placed.now.rows placed.now.count entries.now }
+    ensures { result ≡ own_met placed.now.rows placed.now.count start end }
 {
     let mut met = true;
-    let mut j = 0;
-    'needs: while j < 4 {
-        let count = judged_ticks(settings, n, j);
-        let mut k = 0;
-        'ticks: while k < count {
-            if unmet_at(ticks, settings, codes, n, j, start, end, k) {
+    'needs: for (j, need) in placed.candidate().needs.iter().enumerate() {
+        if need.code == 0 {
+            continue 'needs;
+        }
+        'ticks: for entry in entries {
+            if is_unmet(need.code, entry.codes[j], entry.end, start, end) {
                 met = false;
                 break 'needs;
             }
-            k += 1;
         }
-        j += 1;
+        if unmet_at_start(placed, *need, start, end) {
+            met = false;
+            break 'needs;
+        }
     }
     met
 }

@@ -53,7 +53,7 @@ pub fn put_number(out: &mut [u8], at: usize, x: u64) -> usize
     // By index: of the elements that `iter_mut` has lent out a proof knows nothing afterwards.
     for i in (at..end).rev() {
         out[i] = b'0' + (y % 10) as u8;
-        y = y / 10;
+        y /= 10;
     }
     end
 }

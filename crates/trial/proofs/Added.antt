@@ -1,12 +1,11 @@
 -- What is drawn in each tick with one activity added.
 -- Assumes nothing.
-use Prim.Native.Nat.{ℕ, ◌+◌, ◌≤◌, ◌<◌}
-use mathlib.Core.Path.{◌≡◌, refl, ap}
+use Prim.Native.Nat.{ℕ, ◌≤◌, ◌<◌}
+use mathlib.Core.Path.{◌≡◌, ap}
 use native.Mathlib.Omega.{arith}
 use borrow.Author.Tests.{le-leb, lt-leb, lt-ltb, le-ltb}
 use Rattle.activity.specs.declared.Header.{Header as HeaderStruct}
-use Rattle.charge.specs.declared.draws.OwnDraw.{OwnDraw}
-use Rattle.charge.specs.Charge.{draw_of, kept_by}
+use Rattle.charge.specs.Charge.{OwnDraw, draw_of, kept_by}
 use Rattle.trial.specs.Trial.{own_draw, draw_more, draw_with, kept_at}
 
 -- in the ticks before it draws, while its heater works, while it is held, and after it
@@ -27,11 +26,8 @@ module _ (draw : ℕ → ℕ) (o : OwnDraw) (t : ℕ) where
   unfolding draw_of draw_with
   draws_after h l = rw (le-ltb t o.start (omega arith), le-ltb t o.end l) (omega arith)
 
--- an activity at a start: its ticks, and the test with it added
+-- an activity at a start: the test with it added
 module _ (h : HeaderStruct) (s duration own warm : ℕ) (o : OwnDraw) (e : o ≡ own_draw h s duration own warm) where
-  pub own_within : (o.heat ≤ o.start) × (o.start ≤ o.end) × (o.end ≡ s + duration)
-  own_within = rw e (omega arith, omega arith, refl)
-
   pub own_kept : (draw : ℕ → ℕ) → kept_by h (draw_with draw o) ≡ kept_at h draw duration own warm s
   unfolding kept_at
   own_kept draw = ap (λ (o : OwnDraw). kept_by h (draw_with draw o)) e

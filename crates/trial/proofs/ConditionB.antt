@@ -10,6 +10,7 @@ use Rattle.rules.specs.Warmup.{warmup}
 use Rattle.rules.specs.MeetsB.{drawn, meets_b}
 use Rattle.activity.specs.View.{header_view}
 use Rattle.activity.specs.declared.Header.{Header as HeaderStruct}
+use Rattle.placed.specs.declared.row.Row.{Row}
 use Rattle.placed.specs.Tables.{draw_at}
 use Rattle.placed.specs.Held.{TicksAt, AmountsAt, Rows}
 use Rattle.charge.specs.Charge.{drawn_in, kept_by}
@@ -17,9 +18,9 @@ use Rattle.charge.proofs.Charged.{kept_is, entry_draws, drawn_is}
 use Rattle.trial.specs.Trial.{own_draw, draw_with, kept_at}
 
 -- with the candidate, whose amounts are in the row behind those placed
-module _ (h : HeaderStruct) (ticks amounts : List ℕ) (n : ℕ) (placed : Schedule) (rows : Rows (λ i e. TicksAt (header_view h) ticks i e × AmountsAt amounts i e.activity) n placed) where
-  pub charge_meets : (a : Activity) → AmountsAt amounts n a → (s : ℕ) → kept_at h (drawn_in h ticks amounts n) a.duration (draw_at amounts n) a.warm s ≡ meets_b (header_view h) placed a s
+module _ (h : HeaderStruct) (rows : List Row) (n : ℕ) (placed : Schedule) (say : Rows (λ i e. TicksAt (header_view h) rows i e × AmountsAt rows i e.activity) n placed) where
+  pub charge_meets : (a : Activity) → AmountsAt rows n a → (s : ℕ) → kept_at h (drawn_in h rows n) a.duration (draw_at rows n) a.warm s ≡ meets_b (header_view h) placed a s
   unfolding kept_at meets_b draw_with drawn total warmup header_view
   charge_meets a q s =
-      ap (λ d. kept_by h (draw_with (drawn_in h ticks amounts n) (own_draw h s a.duration d a.warm))) q.draw
-      ∙ kept_is h (draw_with (drawn_in h ticks amounts n) (own_draw h s a.duration a.draw a.warm)) (at a s ∷ placed) (λ t. omega (arith, drawn_is h ticks amounts n placed rows t, entry_draws (header_view h) (at a s) t))
+      ap (λ d. kept_by h (draw_with (drawn_in h rows n) (own_draw h s a.duration d a.warm))) q.draw
+      ∙ kept_is h (draw_with (drawn_in h rows n) (own_draw h s a.duration a.draw a.warm)) (at a s ∷ placed) (λ t. omega (arith, drawn_is h rows n placed say t, entry_draws (header_view h) (at a s) t))

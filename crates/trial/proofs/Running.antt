@@ -1,6 +1,6 @@
 -- Charges run on from tick to tick.
 -- Assumes nothing.
-use Prim.Native.Nat.{ℕ, ◌+◌, ◌-◌, ◌≤◌, ◌<◌, ◌^◌}
+use Prim.Native.Nat.{ℕ, ◌+◌, ◌-◌, ◌≤◌, ◌<◌}
 use mathlib.Core.Path.{◌≡◌, refl, sym, ap, ◌∙◌, subst}
 use mathlib.Core.Logic.{⊎_elim}
 use mathlib.Core.Bool.{true}
@@ -11,10 +11,7 @@ use native.Mathlib.Omega.{arith}
 use lib.IntN.{ℤ, pos}
 use lib.ListN.{length, get_or, set, length-set}
 use lib.Seq.{get_or-set_same, get_or-set_other}
-use lib.Signed.{le_z, mag, ◌≤ℤ◌}
-use mir.Syntax.{w64}
-use mir.Val.{to_z, of_z}
-use mir.Facts.{to_z_pos, to_z-of_z}
+use lib.Signed.{le_z, ◌≤ℤ◌}
 use Rattle.rules.proofs.Tests.{last_or}
 use Rattle.rules.proofs.Signed.{signed}
 use Rattle.activity.specs.declared.Header.{Header as HeaderStruct}
@@ -76,28 +73,23 @@ module _ (h : HeaderStruct) where
 pub record AtTick (h : HeaderStruct) (draw : ℕ → ℕ) (from t : ℕ) (c : ℤ) (old new : List ℤ) : Type 0 where
   pub is : c ≡ get_or new t (pos 0)
   pub most : c ≤ℤ pos h.capacity
-  pub small : h.floor < 2 ^ 63
   pub ran : Ran h draw from t old new
 
 module _ (h : HeaderStruct) (draw : ℕ → ℕ) (from : ℕ) (old : List ℤ) where
-  pub tick_first : h.floor < 2 ^ 63 → mag (get_or old from (pos 0)) < 2 ^ 63 → get_or old from (pos 0) ≤ℤ pos h.capacity → AtTick h draw from from (to_z w64 (of_z w64 (get_or old from (pos 0)))) old old
-  tick_first b f l =
-      let e : to_z w64 (of_z w64 (get_or old from (pos 0))) ≡ get_or old from (pos 0) = to_z-of_z {w = w64} (record { sfits = f }) in
-      record { is = e; most = rw e l; small = b; ran = record { size = refl; began = le_refl _; past = λ t k. refl; next = λ t k l. absurd (omega arith); kept = λ t k l. absurd (omega arith) } }
+  pub tick_first : (c : ℤ) → c ≡ get_or old from (pos 0) → get_or old from (pos 0) ≤ℤ pos h.capacity → AtTick h draw from from c old old
+  tick_first c e l =
+      record { is = e; most = rw e l; ran = record { size = refl; began = le_refl _; past = λ t k. refl; next = λ t k l. absurd (omega arith); kept = λ t k l. absurd (omega arith) } }
 
   module _ (t : ℕ) (c : ℤ) (new : List ℤ) (a : AtTick h draw from t c old new) where
-    pub tick_floor : le_z (to_z w64 h.floor) c ≡ le_z (pos h.floor) (get_or new t (pos 0))
-    tick_floor = λ i. le_z (to_z_pos w64 a.small i) (a.is i)
+    pub tick_floor : le_z (pos h.floor) c ≡ le_z (pos h.floor) (get_or new t (pos 0))
+    tick_floor = ap (le_z (pos h.floor)) a.is
 
-    module _ (k : le_z (to_z w64 h.floor) c ≡ true) where
+    module _ (k : le_z (pos h.floor) c ≡ true) where
       -- the charge is between 0 and the capacity
       pub tick_range : (pos 0 ≤ℤ c) × (c ≤ℤ pos h.capacity)
-      tick_range =
-          let l = le_true (pos h.floor) (get_or new t (pos 0)) (sym tick_floor ∙ k) in
-          (rw a.is (omega (signed, l)), a.most)
+      tick_range = let l = le_true (pos h.floor) c k in (omega (signed, l), a.most)
 
-      pub tick_more : (z : ℤ) → t + 1 < length old → mag z < 2 ^ 63 → z ≡ charge_next h.capacity h.rate (draw t) c → AtTick h draw from (t + 1) (to_z w64 (of_z w64 z)) old (set new (t + 1) (to_z w64 (of_z w64 z)))
-      tick_more z l f e =
+      pub tick_more : (z : ℤ) → t + 1 < length old → z ≡ charge_next h.capacity h.rate (draw t) c → AtTick h draw from (t + 1) z old (set new (t + 1) z)
+      tick_more z l e =
           let m : t + 1 < length new = omega (arith, a.ran.size) in
-          let v : to_z w64 (of_z w64 z) ≡ charge_next h.capacity h.rate (draw t) c = to_z-of_z {w = w64} {z = z} (record { sfits = f }) ∙ e in
-          record { is = sym (get_or-set_same new (t + 1) _ (pos 0) m); most = rw v (next_most _ _ _ _); small = a.small; ran = ran_more h draw from old t new _ a.ran m (sym tick_floor ∙ k) (v ∙ ap (charge_next h.capacity h.rate (draw t)) a.is) }
+          record { is = sym (get_or-set_same new (t + 1) z (pos 0) m); most = rw e (next_most _ _ _ _); ran = ran_more h draw from old t new z a.ran m (sym tick_floor ∙ k) (e ∙ ap (charge_next h.capacity h.rate (draw t)) a.is) }

@@ -18,8 +18,7 @@ use Rattle.rules.proofs.Tests.{last_or}
 use Rattle.rules.proofs.Level.{smaller_most}
 use Rattle.rules.proofs.Signed.{signed, cond_by, add_parts, less_parts}
 use Rattle.activity.specs.declared.Header.{Header as HeaderStruct}
-use Rattle.charge.specs.declared.draws.OwnDraw.{OwnDraw}
-use Rattle.charge.specs.Charge.{draw_of, charge_next, charge_by, kept_by}
+use Rattle.charge.specs.Charge.{OwnDraw, draw_of, charge_next, charge_by, kept_by}
 use Rattle.charge.proofs.Step.{le_le_z}
 use Rattle.charge.proofs.Running.{charge_most}
 use Rattle.charge.proofs.Kept.{kept_charge, kept_last}

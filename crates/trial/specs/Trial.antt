@@ -4,8 +4,7 @@ use Rattle.std.specs.Int.Signed.{le_z}
 use Rattle.rules.specs.Warmup.{warmup_at}
 use Rattle.rules.specs.MeetsB.{smaller}
 use Rattle.activity.specs.declared.Header.{Header as HeaderStruct}
-use Rattle.charge.specs.declared.draws.OwnDraw.{OwnDraw}
-use Rattle.charge.specs.Charge.{draw_of, charge_next, charge_by, kept_by}
+use Rattle.charge.specs.Charge.{OwnDraw, draw_of, charge_next, charge_by, kept_by}
 
 -- an activity of this duration, draw and warm at the start s
 abbrev pub own_draw : HeaderStruct → ℕ → ℕ → ℕ → ℕ → OwnDraw

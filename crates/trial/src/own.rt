@@ -1,19 +1,19 @@
 // What the candidate draws at a start.
-ghost use Rattle.std.specs.Prelude.{◌≡◌, ◌+◌, ◌<◌, ◌≤◌};
+ghost use Rattle.std.specs.Prelude.{◌≡◌, ◌+◌, ◌^◌, ◌<◌, ◌≤◌};
+ghost use Rattle.charge.specs.Charge.{own_view};
 ghost use Rattle.trial.specs.Trial.{own_draw, energy_of};
 
 use activity::Header;
-use charge::draws::OwnDraw;
+use charge::own::OwnDraw;
 use placed::heater_from;
 
 // What an activity draws at a start.
 pub fn own_draw(header: Header, start: u32, duration: u32, draw: u32, warm: u32) -> OwnDraw
     requires { start + duration ≤ 4096 }
-    ensures { result ≡ own_draw header start duration draw warm }
+    ensures { own_view result ≡ own_draw header start duration draw warm }
 {
-    let heat = heater_from(header.minute, start, warm);
     OwnDraw {
-        heat: heat as usize,
+        heat: heater_from(header.minute, start, warm) as usize,
         start: start as usize,
         end: (start + duration) as usize,
         draw,
@@ -22,11 +22,13 @@ pub fn own_draw(header: Header, start: u32, duration: u32, draw: u32, warm: u32)
 }
 
 // What one activity draws in all.
+#[tactic(auto, unfolding(crate::specs::Trial::energy_of))]
 pub fn energy(own: OwnDraw) -> u64
-    requires { (own.heat ≤ own.start) × (own.start ≤ own.end) × (own.end ≤ 4096) }
-    ensures { (result ≡ energy_of own) × (result < 1125899906842624) }
+    requires { own.end ≤ 4096 }
+    ensures value { result ≡ energy_of (own_view own) }
+    ensures bound { result < 2 ^ 50 }
 {
-    let heated = (own.start - own.heat) as u64 * own.heater as u64;
-    let held = (own.end - own.start) as u64 * own.draw as u64;
+    let heated = (own.start - own.heat) as u64 * u64::from(own.heater);
+    let held = (own.end - own.start) as u64 * u64::from(own.draw);
     heated + held
 }

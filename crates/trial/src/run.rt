@@ -1,103 +1,101 @@
 // The charges of a trial, run on from tick to tick.
-ghost use Rattle.std.specs.Prelude.{◌≡◌, false, ◌⊎◌, ◌<◌, ◌≤◌, pos, length, get_or, ◌≤ℤ◌};
+ghost use Rattle.std.specs.Prelude.{◌≡◌, ℕ, ℤ, true, false, ◌⊎◌, ◌<◌, ◌≤◌, pos, length, get_or, ◌≤ℤ◌};
 ghost use Rattle.std.specs.Int.Signed.{le_z};
-ghost use Rattle.charge.specs.Charge.{at_tick, Drawing};
+ghost use Rattle.charge.specs.Charge.{own_view, at_tick};
 ghost use Rattle.trial.specs.Trial.{draw_more, draw_with, Charges, Ran};
 
+use crate::base::Base;
 use activity::Header;
-use charge::draws::OwnDraw;
+use charge::own::OwnDraw;
 use charge::run::step;
-use placed::wide;
+use charge::sums::Drawn;
 
 // The most charges of a plan: at each tick, and at the horizon.
 pub const CHARGES: usize = 4097;
 
-// Runs the charge on from tick `from`, with `by` drawn beside the placed, to tick `to` or the first tick under the floor. Answers the tick reached.
-fn run_ticks(
-    draws: &[u32],
-    header: Header,
+// Runs the charge on from tick `from`, with `by` drawn beside the placed, to tick `to`, the first tick under the floor, or the first whose charge ends the run. Answers the tick reached.
+fn run_until<E: Fn(usize, i64) -> bool>(
+    drawn: &Drawn,
     by: u32,
     from: usize,
     to: usize,
-    charge: &mut [i64],
+    charges: &mut [i64],
+    ends: E,
 ) -> usize
-    requires from_le_to { (from ≤ to) × (to ≤ length draws.now) × (to < length charge.old) }
-    requires under_capacity { get_or charge.old from (pos 0) ≤ℤ pos header.capacity }
-    ensures ran_to { (result ≤ to) × Ran header (draw_more (at_tick draws.now) by) from result charge.old charge.new }
-    ensures left_early { result < to → le_z (pos header.floor) (get_or charge.new result (pos 0)) ≡ false }
+    requires callable { (t : ℕ) (c : ℤ) → t < to → E.pre ends t c }
+    requires from_le_to { (from ≤ to) × (to ≤ length drawn.now.draws.now) × (to < length charges.old) }
+    requires under_capacity { get_or charges.old from (pos 0) ≤ℤ pos drawn.now.header.capacity }
+    ensures ran_to { (result ≤ to) × Ran drawn.now.header (draw_more (at_tick drawn.now.draws.now) by) from result charges.old charges.new }
+    ensures left_early { result < to → (le_z (pos drawn.now.header.floor) (get_or charges.new result (pos 0)) ≡ false) ⊎ E.post ends result (get_or charges.new result (pos 0)) true }
 {
-    let floor = header.floor as i64;
-    let more = by as u64;
-    let mut t = from;
-    let mut c = charge[t];
-    'ticks: while t < to {
-        if floor <= c {
-            let d = wide(draws[t]) + more;
-            c = step(c, header.capacity, header.rate, d);
-            t += 1;
-            charge[t] = c;
-        } else {
-            break 'ticks;
+    let Header {
+        capacity,
+        rate,
+        floor,
+        ..
+    } = drawn.header;
+    let draws = drawn.draws;
+    let floor = i64::from(floor);
+    let more = u64::from(by);
+    let mut c = charges[from];
+    for t in from..to {
+        if c < floor || ends(t, c) {
+            return t;
         }
+        c = step(c, capacity, rate, u64::from(draws[t]) + more);
+        charges[t + 1] = c;
     }
-    t
+    to
+}
+
+// The same with no other end.
+fn run_ticks(drawn: &Drawn, by: u32, from: usize, to: usize, charges: &mut [i64]) -> usize
+    requires from_le_to { (from ≤ to) × (to ≤ length drawn.now.draws.now) × (to < length charges.old) }
+    requires under_capacity { get_or charges.old from (pos 0) ≤ℤ pos drawn.now.header.capacity }
+    ensures ran_to { (result ≤ to) × Ran drawn.now.header (draw_more (at_tick drawn.now.draws.now) by) from result charges.old charges.new }
+    ensures left_early { result < to → le_z (pos drawn.now.header.floor) (get_or charges.new result (pos 0)) ≡ false }
+{
+    run_until(drawn, by, from, to, charges, |_, _| false)
 }
 
 // Runs the charge on from tick `from`, with the placed alone, to the horizon, the first tick under the floor, or the first where the charge is the base's again.
-pub fn run_back(
-    draws: &[u32],
-    header: Header,
-    base: &[i64],
-    from: usize,
-    charge: &mut [i64],
-) -> usize
-    requires from_le_horizon { (from ≤ header.horizon) × (header.horizon ≤ length draws.now) × (header.horizon < length charge.old) × (header.horizon < length base.now) }
-    requires under_capacity { get_or charge.old from (pos 0) ≤ℤ pos header.capacity }
-    ensures ran_to { (result ≤ header.horizon) × Ran header (at_tick draws.now) from result charge.old charge.new }
-    ensures left_early { result < header.horizon → (le_z (pos header.floor) (get_or charge.new result (pos 0)) ≡ false) ⊎ (get_or charge.new result (pos 0) ≡ get_or base.now result (pos 0)) }
+pub fn run_back(base: &Base, from: usize, charges: &mut [i64]) -> usize
+    requires from_le_horizon { (from ≤ base.now.drawn.header.horizon) × (length charges.old ≡ 4097) }
+    requires under_capacity { get_or charges.old from (pos 0) ≤ℤ pos base.now.drawn.header.capacity }
+    ensures ran_to { (result ≤ base.now.drawn.header.horizon) × Ran base.now.drawn.header (at_tick base.now.drawn.draws.now) from result charges.old charges.new }
+    ensures left_early { result < base.now.drawn.header.horizon → (le_z (pos base.now.drawn.header.floor) (get_or charges.new result (pos 0)) ≡ false) ⊎ (get_or charges.new result (pos 0) ≡ get_or base.now.charges.now result (pos 0)) }
 {
-    let horizon = header.horizon as usize;
-    let floor = header.floor as i64;
-    let mut t = from;
-    let mut c = charge[t];
-    'ticks: while t < horizon {
-        let b = base[t];
-        if c == b {
-            break 'ticks;
-        } else if floor <= c {
-            c = step(c, header.capacity, header.rate, wide(draws[t]));
-            t += 1;
-            charge[t] = c;
-        } else {
-            break 'ticks;
-        }
-    }
-    t
+    let to = base.drawn.header.horizon as usize;
+    let base_charges = base.charges;
+    run_until(
+        &base.drawn,
+        0,
+        from,
+        to,
+        charges,
+        |t, c| c == base_charges[t],
+    )
 }
 
 // Fills in the base, the charge at each tick with the placed alone.
-pub fn fill_charges(draws: &[u32], header: Header, charge: &mut [i64])
-    requires { Drawing draws.now header × (length charge.old ≡ 4097) }
-    ensures { Charges header (at_tick draws.now) charge.new }
+pub fn fill_charges(drawn: &Drawn, charges: &mut [i64])
+    requires { length charges.old ≡ 4097 }
+    ensures { Charges drawn.now.header (at_tick drawn.now.draws.now) charges.new }
 {
-    let horizon = header.horizon as usize;
-    charge[0] = header.first as i64;
-    run_ticks(draws, header, 0, 0, horizon, charge);
+    charges[0] = i64::from(drawn.header.first);
+    run_ticks(drawn, 0, 0, drawn.header.horizon as usize, charges);
 }
 
 // Runs the charge on through the ticks in which one activity draws, to its end or the first tick under the floor.
-pub fn run_own(draws: &[u32], header: Header, own: OwnDraw, charge: &mut [i64]) -> usize
-    requires heat_le_start { (own.heat ≤ own.start) × (own.start ≤ own.end) × (own.end ≤ length draws.now) × (own.end < length charge.old) }
-    requires under_capacity { get_or charge.old own.heat (pos 0) ≤ℤ pos header.capacity }
-    ensures ran_to { (result ≤ own.end) × Ran header (draw_with (at_tick draws.now) own) own.heat result charge.old charge.new }
-    ensures left_early { result < own.end → le_z (pos header.floor) (get_or charge.new result (pos 0)) ≡ false }
+pub fn run_own(drawn: &Drawn, own: OwnDraw, charges: &mut [i64]) -> usize
+    requires in_time { (own.end ≤ length drawn.now.draws.now) × (own.end < length charges.old) }
+    requires under_capacity { get_or charges.old own.heat (pos 0) ≤ℤ pos drawn.now.header.capacity }
+    ensures ran_to { (result ≤ own.end) × Ran drawn.now.header (draw_with (at_tick drawn.now.draws.now) (own_view own)) own.heat result charges.old charges.new }
+    ensures left_early { result < own.end → le_z (pos drawn.now.header.floor) (get_or charges.new result (pos 0)) ≡ false }
 {
-    let heat = own.heat;
-    let start = own.start;
-    let end = own.end;
-    let heated = run_ticks(draws, header, own.heater, heat, start, charge);
-    if heated < start {
+    let heated = run_ticks(drawn, own.heater, own.heat, own.start, charges);
+    if heated < own.start {
         return heated;
     }
-    run_ticks(draws, header, own.draw, start, end, charge)
+    run_ticks(drawn, own.draw, own.start, own.end, charges)
 }

@@ -17,9 +17,9 @@ add_placed-requires-clause-ticks_bounded c =
 pub add_placed-requires-clause-draws_len : goal.add_placed-requires-clause-draws_len
 add_placed-requires-clause-draws_len c = (refl, zeros 4096)
 
-pub run_through-requires : goal.run_through-requires
-run_through-requires c =
-    drawing _ _ _ c.add_placed.ensures c.add_placed.auto.draws c.requires.header_formed.0 c.requires.header_formed.1
+pub invariant_of-drawn : goal.invariant_of-drawn
+invariant_of-drawn c =
+    record { kept = drawing _ _ _ c.add_placed.ensures c.add_placed.auto.draws c.requires.header_formed.0 c.requires.header_formed.1 }
 
 -- the charge that is answered
 last_is : (c : goal.After-run_through) → (c.run_through.result ≡ charge_by c.args.header (drawn_in c.args.header c.args.placed.now.rows c.args.placed.now.count) c.args.header.horizon) × (pos 0 ≤ℤ c.run_through.result)

@@ -3,104 +3,77 @@ use native.Mathlib.Omega.{arith}
 use borrow.Author.Rules.{rules}
 use mathlib.Core.Path.{◌≡◌}
 use lib.ListN.{length}
-use Rattle.conditions.proofs.Picked.{picked, ticks_ok, amounts_ok, settings_ok, lasts, count_end, count_few, markable, kept_ok, windows_are, after_are, units_are, state_is, engines_are, peaks_are, charge_is, volume_is, warmup_is}
+use Rattle.conditions.proofs.Picked.{picked, needs, windows_are, after_are, units_are, state_is, engines_are, peaks_are, charge_is, volume_is, warmup_is}
 use Rattle.conditions.proofs.mark.Goals as goal
 
 pub mark_windows-requires : goal.mark_windows-requires
 mark_windows-requires c =
-    let B = c.requires.ready.1.1 in
-    let e = c.requires.ready.2 in
-    (B.sized.windows, search rules, search rules, markable _ _ _ _ _ _ _ _ e _ B _ _ c.bit-by.ensures.1 c.requires.table_in_bounds.0 c.requires.table_in_bounds.1)
+    let N = needs _ _ _ _ _ c.requires.ready.2 _ c.requires.ready.1.1 in
+    let M = N.markable _ _ c.bit-by.ensures.1 c.requires.table_in_bounds.0 c.requires.table_in_bounds.1 in search rules
 
 pub mark_after-requires : goal.mark_after-requires
 mark_after-requires c =
-    let B = c.requires.ready.1.1 in
-    let e = c.requires.ready.2 in
-    (omega (arith, B.few), B.sized.after, markable _ _ _ _ _ _ _ _ e _ B _ _ c.bit-by.ensures.1 c.requires.table_in_bounds.0 c.requires.table_in_bounds.1)
+    let N = needs _ _ _ _ _ c.requires.ready.2 _ c.requires.ready.1.1 in
+    let M = N.markable _ _ c.bit-by.ensures.1 c.requires.table_in_bounds.0 c.requires.table_in_bounds.1 in search rules
 
 pub mark_units-requires : goal.mark_units-requires
 mark_units-requires c =
-    let B = c.requires.ready.1.1 in
-    let e = c.requires.ready.2 in
-    record {
-      n_bound = (B.few, ticks_ok _ _ _ _ _ _ _ _ e _ B);
-      le_duration = (lasts _ _ _ _ _ _ _ _ e _ B, count_few _ _ _ _ _ _ _ _ e _ B, markable _ _ _ _ _ _ _ _ e _ B _ _ c.bit-by.ensures.1 c.requires.table_in_bounds.0 c.requires.table_in_bounds.1);
-    }
+    let N = needs _ _ _ _ _ c.requires.ready.2 _ c.requires.ready.1.1 in
+    let M = N.markable _ _ c.bit-by.ensures.1 c.requires.table_in_bounds.0 c.requires.table_in_bounds.1 in search rules
 
 pub mark_state-requires : goal.mark_state-requires
 mark_state-requires c =
-    let B = c.requires.ready.1.1 in
-    let e = c.requires.ready.2 in
-    record {
-      n_bound = (B.few, ticks_ok _ _ _ _ _ _ _ _ e _ B, settings_ok _ _ _ _ _ _ _ _ e _ B);
-      duration_bound = (count_few _ _ _ _ _ _ _ _ e _ B, markable _ _ _ _ _ _ _ _ e _ B _ _ c.bit-by.ensures.1 c.requires.table_in_bounds.0 c.requires.table_in_bounds.1);
-    }
+    let N = needs _ _ _ _ _ c.requires.ready.2 _ c.requires.ready.1.1 in
+    let M = N.markable _ _ c.bit-by.ensures.1 c.requires.table_in_bounds.0 c.requires.table_in_bounds.1 in search rules
 
 pub mark_engines-requires : goal.mark_engines-requires
 mark_engines-requires c =
-    let B = c.requires.ready.1.1 in
-    let e = c.requires.ready.2 in
-    record {
-      n_bound = (B.few, ticks_ok _ _ _ _ _ _ _ _ e _ B, amounts_ok _ _ _ _ _ _ _ _ e _ B);
-      le_duration = (lasts _ _ _ _ _ _ _ _ e _ B, count_few _ _ _ _ _ _ _ _ e _ B, markable _ _ _ _ _ _ _ _ e _ B _ _ c.bit-by.ensures.1 c.requires.table_in_bounds.0 c.requires.table_in_bounds.1);
-    }
+    let N = needs _ _ _ _ _ c.requires.ready.2 _ c.requires.ready.1.1 in
+    let M = N.markable _ _ c.bit-by.ensures.1 c.requires.table_in_bounds.0 c.requires.table_in_bounds.1 in search rules
 
 pub mark_peaks-requires : goal.mark_peaks-requires
 mark_peaks-requires c =
-    let B = c.requires.ready.1.1 in
-    let e = c.requires.ready.2 in
-    record {
-      n_bound = (B.few, ticks_ok _ _ _ _ _ _ _ _ e _ B, amounts_ok _ _ _ _ _ _ _ _ e _ B);
-      le_duration = (lasts _ _ _ _ _ _ _ _ e _ B, count_few _ _ _ _ _ _ _ _ e _ B, markable _ _ _ _ _ _ _ _ e _ B _ _ c.bit-by.ensures.1 c.requires.table_in_bounds.0 c.requires.table_in_bounds.1);
-    }
+    let N = needs _ _ _ _ _ c.requires.ready.2 _ c.requires.ready.1.1 in
+    let M = N.markable _ _ c.bit-by.ensures.1 c.requires.table_in_bounds.0 c.requires.table_in_bounds.1 in search rules
 
 pub mark_charge-requires : goal.mark_charge-requires
 mark_charge-requires c =
-    let B = c.requires.ready.1.1 in
-    let e = c.requires.ready.2 in
-    record {
-      n_bound = (B.few, ticks_ok _ _ _ _ _ _ _ _ e _ B, amounts_ok _ _ _ _ _ _ _ _ e _ B);
-      header_formed = (B.reached.header, kept_ok _ _ _ _ _ _ _ _ e _ B);
-      duration_bound = (count_end _ _ _ _ _ _ _ _ e _ B, markable _ _ _ _ _ _ _ _ e _ B _ _ c.bit-by.ensures.1 c.requires.table_in_bounds.0 c.requires.table_in_bounds.1);
-    }
+    let N = needs _ _ _ _ _ c.requires.ready.2 _ c.requires.ready.1.1 in
+    let M = N.markable _ _ c.bit-by.ensures.1 c.requires.table_in_bounds.0 c.requires.table_in_bounds.1 in search rules
 
 pub mark_volume-requires : goal.mark_volume-requires
 mark_volume-requires c =
-    let B = c.requires.ready.1.1 in
-    let e = c.requires.ready.2 in
-    (B.few, markable _ _ _ _ _ _ _ _ e _ B _ _ c.bit-by.ensures.1 c.requires.table_in_bounds.0 c.requires.table_in_bounds.1)
+    let N = needs _ _ _ _ _ c.requires.ready.2 _ c.requires.ready.1.1 in
+    let M = N.markable _ _ c.bit-by.ensures.1 c.requires.table_in_bounds.0 c.requires.table_in_bounds.1 in search rules
 
 pub mark_warmup-requires : goal.mark_warmup-requires
 mark_warmup-requires c =
-    let B = c.requires.ready.1.1 in
-    let e = c.requires.ready.2 in
-    markable _ _ _ _ _ _ _ _ e _ B _ _ c.bit-by.ensures.1 c.requires.table_in_bounds.0 c.requires.table_in_bounds.1
+    let N = needs _ _ _ _ _ c.requires.ready.2 _ c.requires.ready.1.1 in
+    let M = N.markable _ _ c.bit-by.ensures.1 c.requires.table_in_bounds.0 c.requires.table_in_bounds.1 in search rules
 
 pub returns-in-0 : goal.returns-in-0
-returns-in-0 c = λ placed B. picked _ _ _ _ 0 _ _ _ _ _ c.requires.ready.0 c.in-0.is c.bit-by.ensures.0 (windows_are _ _ _ _ _ _ _ _ c.requires.ready.2 placed B) (search rules)
+returns-in-0 c = λ placed B. picked _ _ _ _ 0 _ _ _ _ _ c.requires.ready.0 c.in-0.is c.bit-by.ensures.0 (windows_are _ _ _ _ _ c.requires.ready.2 placed B) (rw c.as_slice.ensures.value at c.mark_windows.ensures)
 
 pub returns-in-1 : goal.returns-in-1
-returns-in-1 c = λ placed B.
-    let long : length c.args.candidate.after ≡ 8 = search rules in
-    picked _ _ _ _ 1 _ _ _ _ _ c.requires.ready.0 c.in-1.is c.bit-by.ensures.0 (after_are _ _ _ _ _ _ _ _ c.requires.ready.2 placed B (omega (arith, B.sized.after))) (search rules)
+returns-in-1 c = λ placed B. picked _ _ _ _ 1 _ _ _ _ _ c.requires.ready.0 c.in-1.is c.bit-by.ensures.0 (after_are _ _ _ _ _ c.requires.ready.2 placed B) (rw c.as_slice-in-1.ensures.value at c.mark_after.ensures)
 
 pub returns-in-2 : goal.returns-in-2
-returns-in-2 c = λ placed B. picked _ _ _ _ 2 _ _ _ _ _ c.requires.ready.0 c.in-2.is c.bit-by.ensures.0 (units_are _ _ _ _ _ _ _ _ c.requires.ready.2 placed B) (search rules)
+returns-in-2 c = λ placed B. picked _ _ _ _ 2 _ _ _ _ _ c.requires.ready.0 c.in-2.is c.bit-by.ensures.0 (units_are _ _ _ _ _ c.requires.ready.2 placed B) (search rules)
 
 pub returns-in-3 : goal.returns-in-3
-returns-in-3 c = λ placed B. picked _ _ _ _ 3 _ _ _ _ _ c.requires.ready.0 c.in-3.is c.bit-by.ensures.0 (state_is _ _ _ _ _ _ _ _ c.requires.ready.2 placed B) (search rules)
+returns-in-3 c = λ placed B. picked _ _ _ _ 3 _ _ _ _ _ c.requires.ready.0 c.in-3.is c.bit-by.ensures.0 (state_is _ _ _ _ _ c.requires.ready.2 placed B) (search rules)
 
 pub returns-in-4 : goal.returns-in-4
-returns-in-4 c = λ placed B. picked _ _ _ _ 4 _ _ _ _ _ c.requires.ready.0 c.in-4.is c.bit-by.ensures.0 (engines_are _ _ _ _ _ _ _ _ c.requires.ready.2 placed B) (search rules)
+returns-in-4 c = λ placed B. picked _ _ _ _ 4 _ _ _ _ _ c.requires.ready.0 c.in-4.is c.bit-by.ensures.0 (engines_are _ _ _ _ _ c.requires.ready.2 placed B) (search rules)
 
 pub returns-in-5 : goal.returns-in-5
-returns-in-5 c = λ placed B. picked _ _ _ _ 5 _ _ _ _ _ c.requires.ready.0 c.in-5.is c.bit-by.ensures.0 (peaks_are _ _ _ _ _ _ _ _ c.requires.ready.2 placed B) (search rules)
+returns-in-5 c = λ placed B. picked _ _ _ _ 5 _ _ _ _ _ c.requires.ready.0 c.in-5.is c.bit-by.ensures.0 (peaks_are _ _ _ _ _ c.requires.ready.2 placed B) (search rules)
 
 pub returns-in-6 : goal.returns-in-6
-returns-in-6 c = λ placed B. picked _ _ _ _ 6 _ _ _ _ _ c.requires.ready.0 c.in-6.is c.bit-by.ensures.0 (charge_is _ _ _ _ _ _ _ _ c.requires.ready.2 placed B) (search rules)
+returns-in-6 c = λ placed B. picked _ _ _ _ 6 _ _ _ _ _ c.requires.ready.0 c.in-6.is c.bit-by.ensures.0 (charge_is _ _ _ _ _ c.requires.ready.2 placed B) (search rules)
 
 pub returns-in-7 : goal.returns-in-7
-returns-in-7 c = λ placed B. picked _ _ _ _ 7 _ _ _ _ _ c.requires.ready.0 c.in-7.is c.bit-by.ensures.0 (volume_is _ _ _ _ _ _ _ _ c.requires.ready.2 placed B) (search rules)
+returns-in-7 c = λ placed B. picked _ _ _ _ 7 _ _ _ _ _ c.requires.ready.0 c.in-7.is c.bit-by.ensures.0 (volume_is _ _ _ _ _ c.requires.ready.2 placed B) (search rules)
 
 pub returns-in-8 : goal.returns-in-8
-returns-in-8 c = λ placed B. picked _ _ _ _ 8 _ _ _ _ _ c.requires.ready.0 c.in-8.is c.bit-by.ensures.0 (warmup_is _ _ _ _ _ _ _ _ c.requires.ready.2 placed B) (search rules)
+returns-in-8 c = λ placed B. picked _ _ _ _ 8 _ _ _ _ _ c.requires.ready.0 c.in-8.is c.bit-by.ensures.0 (warmup_is _ _ _ _ _ c.requires.ready.2 placed B) (search rules)

@@ -2,24 +2,25 @@
 use Rattle.std.proofs.Common.{◌≡◌, ◌∙◌, ap, get_or, take, arith}
 use Rattle.std.proofs.lemmas.List.{get_or-take}
 use Rattle.placed.specs.Tables.{no_row, row_in}
-use Rattle.charge.specs.Charge.{row_draw}
+use Rattle.charge.specs.Charge.{OwnDraw, own_view, row_draw, draw_of}
 use Rattle.charge.proofs.Drawn.{drawn_step, drawn_few}
 use Rattle.charge.proofs.draws.add_placed.Goals as goal
 use Rattle.charge.proofs.draws.add_placed.Goals.{After-row_draw}
 
 -- what is drawn by the row passed
-own : (c : After-row_draw) → c.row_draw.result ≡ row_draw c.args.header (row_in c.args.placed.now.rows c.loop-row.row-index)
+own : (c : After-row_draw) → own_view c.row_draw.result ≡ row_draw c.args.header (row_in c.args.placed.now.rows c.loop-row.row-index)
 own c =
-    let here : c.row_draw.result ≡ row_draw c.args.header (get_or (take c.args.placed.now.count c.args.placed.now.rows) c.loop-row.row-index no_row) = (cc) in
+    let here : own_view c.row_draw.result ≡ row_draw c.args.header (get_or (take c.args.placed.now.count c.args.placed.now.rows) c.loop-row.row-index no_row) = (cc) in
     here ∙ ap (row_draw c.args.header) (get_or-take c.args.placed.now.count c.args.placed.now.rows c.loop-row.row-index no_row (omega arith))
 
 pub add_draw-requires-clause-small_draws : goal.add_draw-requires-clause-small_draws
 add_draw-requires-clause-small_draws c =
     let s = c.args in
     let p = c.requires.ticks_bounded in
-    rw (own c) (λ t. omega (arith, c.loop-row.invariant t, drawn_few s.header s.placed.now.rows _ c.loop-row.row-index p.1 p.2 (omega arith) t, p.0.few, p.1.draw c.loop-row.row-index (omega arith)))
+    let e = own c in
+    λ t. omega (arith, ap (λ (o : OwnDraw). o.draw) e, ap (λ (o : OwnDraw). o.heater) e, c.loop-row.invariant t, drawn_few s.header s.placed.now.rows _ c.loop-row.row-index p.1 p.2 (omega arith) t, p.0.few, p.1.draw c.loop-row.row-index (omega arith))
 
 pub loop-row-preserved : goal.loop-row-preserved
 loop-row-preserved c =
     let e = own (goal.at.loop-row-preserved c).After-row_draw in
-    λ t. omega (arith, rw e at (c.add_draw.ensures t), c.loop-row.invariant t, drawn_step c.args.header c.args.placed.now.rows c.loop-row.row-index t)
+    λ t. omega (arith, ap (λ (o : OwnDraw). draw_of o t) e, c.add_draw.ensures t, c.loop-row.invariant t, drawn_step c.args.header c.args.placed.now.rows c.loop-row.row-index t)

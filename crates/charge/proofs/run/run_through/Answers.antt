@@ -11,18 +11,18 @@ use Rattle.charge.proofs.run.run_through.Goals as goal
 
 pub loop-draw-init : goal.loop-draw-init
 loop-draw-init c =
-    let h = c.args.header in
+    let h = c.args.drawn.now.header in
     let first : to_z w64 (of_z w64 (pos h.first)) ≡ pos h.first = omega (arith, ints) in
     rw c.from-charge.ensures (first ∙ charge_first h _)
 
 pub step-charge-requires-clause-charge_bound : goal.step-charge-requires-clause-charge_bound
 step-charge-requires-clause-charge_bound c =
-    let low = kept_charge _ _ c.requires.kept c.loop-draw.draw-index (omega (arith, length-take-le c.args.header.horizon c.args.draws.now c.requires.known)) in
-    let high = charge_most c.args.header (at_tick c.args.draws.now) c.loop-draw.draw-index c.requires.first in
+    let low = kept_charge _ _ c.args.drawn.now.kept.kept c.loop-draw.draw-index (omega (arith, length-take-le c.args.drawn.now.header.horizon c.args.drawn.now.draws.now c.args.drawn.now.kept.known)) in
+    let high = charge_most c.args.drawn.now.header (at_tick c.args.drawn.now.draws.now) c.loop-draw.draw-index c.args.drawn.now.kept.first in
     (rw c.loop-draw.invariant (omega signed), rw c.loop-draw.invariant (omega signed))
 
 pub loop-draw-preserved : goal.loop-draw-preserved
 loop-draw-preserved c =
-    let h = c.args.header in
-    let draw : c.from.result ≡ at_tick c.args.draws.now c.loop-draw.draw-index = c.from.ensures ∙ get_or-take c.args.header.horizon c.args.draws.now c.loop-draw.draw-index 0 (omega (arith, length-take-le c.args.header.horizon c.args.draws.now c.requires.known)) in
+    let h = c.args.drawn.now.header in
+    let draw : c.from.result ≡ at_tick c.args.drawn.now.draws.now c.loop-draw.draw-index = c.from.ensures ∙ get_or-take c.args.drawn.now.header.horizon c.args.drawn.now.draws.now c.loop-draw.draw-index 0 (omega (arith, length-take-le c.args.drawn.now.header.horizon c.args.drawn.now.draws.now c.args.drawn.now.kept.known)) in
     to_z-of_z {w = w64} (record { sfits = c.step-charge.type_inv }) ∙ c.step-charge.ensures ∙ (λ i. charge_next h.capacity h.rate (draw i) (c.loop-draw.invariant i)) ∙ sym (charge_next_lem h _ c.loop-draw.draw-index)

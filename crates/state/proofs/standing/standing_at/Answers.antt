@@ -1,19 +1,19 @@
--- `standing_at` meets its contract: the sets of the first i rows are weighed.
-use mathlib.Core.Path.{◌≡◌, refl}
-use native.Mathlib.Omega.{arith}
-use Rattle.state.specs.Standing.{standing_by}
-use Rattle.state.proofs.Loops.{stands_more}
+-- `standing_at` meets its contract: the sets of the rows passed are weighed.
+use Rattle.std.proofs.Common.{◌≡◌, sym, ap, ◌∙◌, ◌<◌, List, arith}
+use Rattle.placed.specs.declared.row.Row.{Row}
+use Rattle.placed.specs.Tables.{row_in}
+use Rattle.placed.proofs.Rows.{row_taken}
+use Rattle.state.proofs.Loops.{stands_none, stands_more}
 use Rattle.state.proofs.standing.standing_at.Goals as goal
 
-pub loop-i-init : goal.loop-i-init
-unfolding standing_by
-loop-i-init c = (omega arith, refl)
+pub loop-row-init : goal.loop-row-init
+loop-row-init c = sym (stands_none _ _ _)
 
-pub loop-i-preserved : goal.loop-i-preserved
-loop-i-preserved c =
-    (omega arith, stands_more _ _ _ _ c.loop-i.i _ _ _ _ c.end_at.ensures c.set_at.ensures c.loop-i.invariant.1 c.later-standing.ensures)
-
-pub returns : goal.returns
-returns c =
-    let e : c.args.n ≡ c.loop-i.i = omega arith in
-    rw e c.loop-i.invariant.1
+pub loop-row-preserved : goal.loop-row-preserved
+loop-row-preserved c =
+    let rows = c.args.placed.now.rows in
+    let i = c.loop-row.row-index in
+    let k : i < c.args.placed.now.count = omega (arith, c.entries-row-items.ensures.size, c.loop-row-test.true) in
+    let row : row_in c.entries-row-items.result.now i ≡ row_in rows i =
+    ap (λ (xs : List Row). row_in xs i) c.entries-row-items.ensures.value ∙ row_taken rows c.args.placed.now.count i k in
+    rw (c.later-standing.ensures, c.from.ensures, c.loop-row.invariant, row) (sym (stands_more _ _ _ _))

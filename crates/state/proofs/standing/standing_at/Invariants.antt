@@ -1,11 +1,7 @@
--- The loop of `standing_at`: the sets of the first i rows are weighed.
-use Prim.Native.Nat.{◌-◌, ◌≤◌}
-use mathlib.Core.Path.{◌≡◌}
+-- The loop of `standing_at`: the sets of the rows passed are weighed.
+use Rattle.std.proofs.Common.{◌≡◌}
 use Rattle.state.specs.Standing.{standing_by}
 use Rattle.state.proofs.standing.standing_at.Given as goal
 
-abbrev pub invariant-loop-i : goal.invariant-loop-i
-invariant-loop-i l = (l.i ≤ l.n) × (l.standing ≡ standing_by l.ticks l.settings l.variable l.t l.i)
-
-abbrev pub decreases-loop-i : goal.decreases-loop-i
-decreases-loop-i l = l.n - l.i
+abbrev pub invariant-loop-row : goal.invariant-loop-row
+invariant-loop-row l = l.standing ≡ standing_by l.placed.rows l.variable l.tick l.row-index

@@ -1,23 +1,24 @@
--- `lowest_charge` meets its contract: the lowest of ticks 0 to t.
-use native.Mathlib.Omega.{arith}
-use Prim.Native.Nat.{◌+◌}
-use mathlib.Core.Path.{◌≡◌, ◌∙◌}
-use lib.IntN.{pos}
-use lib.ListN.{get_or}
-use mir.Syntax.{w64}
+-- `lowest_charge` meets its contract: the lowest of the charges passed.
+use Rattle.std.proofs.Common.{rules, ℕ, ap, ◌≡◌, ◌∙◌, ◌+◌, ◌-◌, pos, get_or, take, drop, w64, arith}
+use Rattle.std.specs.Int.{int_min}
+use Rattle.std.proofs.lemmas.List.{get_or-take, get_or-drop, length-take-le}
+use native.Mathlib.Nat.{add_comm}
+use mir.Val.{SFits}
 use mir.Facts.{to_z-of_z}
-use Rattle.rules.specs.MeetsB.{smaller}
+use Rattle.charge.proofs.Step.{min_smaller}
+use Rattle.trial.specs.Trial.{lowest_of}
 use Rattle.trial.proofs.Spared.{lowest_first, lowest_next}
 use Rattle.trial.proofs.spare.lowest_charge.Goals as goal
 
-pub loop-t-init : goal.loop-t-init
-loop-t-init c = (omega arith, to_z-of_z {w = w64} (record { sfits = c.lowest-1.given }) ∙ lowest_first c.args.charge.now)
+pub loop-charge-init : goal.loop-charge-init
+loop-charge-init c =
+    let f : SFits w64 (get_or c.args.charges.now 0 (pos 0)) = search rules in
+    to_z-of_z f ∙ lowest_first c.args.charges.now
 
-pub loop-t-preserved : goal.loop-t-preserved
-loop-t-preserved c =
-    (omega arith, to_z-of_z {w = w64} (record { sfits = c.smaller-lowest.type_inv }) ∙ c.smaller-lowest.ensures ∙ (λ i. smaller (c.loop-t.invariant.1 i) (to_z-of_z {w = w64} {z = get_or c.args.charge.now (c.loop-t.t + 1) (pos 0)} (record { sfits = c.smaller-arg-1.given }) i)) ∙ lowest_next c.args.charge.now c.loop-t.t)
-
-pub returns : goal.returns
-returns c =
-    let e : c.loop-t.t ≡ c.args.horizon = omega arith in
-    rw e at c.loop-t.invariant.1
+pub loop-charge-preserved : goal.loop-charge-preserved
+loop-charge-preserved c =
+    let i = c.loop-charge.charge-index in
+    let g : SFits w64 (get_or (take (c.args.horizon + 1 - 1) (drop 1 c.args.charges.now)) i (pos 0)) = search rules in
+    let item : get_or (take (c.args.horizon + 1 - 1) (drop 1 c.args.charges.now)) i (pos 0) ≡ get_or c.args.charges.now (i + 1) (pos 0) = get_or-take _ _ i (pos 0) (omega (arith, length-take-le (c.args.horizon + 1 - 1) (drop 1 c.args.charges.now))) ∙ get_or-drop 1 c.args.charges.now i (pos 0) ∙ ap (λ (k : ℕ). get_or c.args.charges.now k (pos 0)) (add_comm 1 i) in
+    let lowest = to_z-of_z {w = w64} (record { sfits = c.min-lowest.type_inv }) ∙ c.min-lowest.ensures.value ∙ (λ j. int_min (c.loop-charge.invariant j) ((to_z-of_z g ∙ item) j)) in
+    lowest ∙ min_smaller (lowest_of c.args.charges.now i) (get_or c.args.charges.now (i + 1) (pos 0)) ∙ lowest_next c.args.charges.now i
