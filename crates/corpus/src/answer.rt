@@ -7,6 +7,11 @@ pub fn wrong(rt: &impl Print, what: &str) -> io::Result<()> {
     println!(rt; "wrong\t{what}")
 }
 
+// Whether every item from `from` on is as it was lent.
+pub fn left_from<T: PartialEq + Copy>(lent: &[T], from: usize, mark: T) -> bool {
+    lent.iter().skip(from).all(|item| *item == mark)
+}
+
 // Writes a refusal.
 fn put_no(rt: &impl Print, refusal: Refusal) -> io::Result<()> {
     let number = u32::from(refusal.fault);

@@ -1,7 +1,7 @@
 // What the planner prints for a plan, and the calls of report.
 ghost use Rattle.std.specs.Prelude.{◌≤◌, length};
 
-use super::answer;
+use super::answer::{self, left_from};
 use report::lines::REPORT;
 use rules::{Fault, Refusal};
 use std::io;
@@ -9,14 +9,9 @@ use std::io;
 // What a lent byte holds before a call; no report has it.
 const MARK: u8 = b'#';
 
-// Whether every byte from `from` on is as it was lent.
-fn left_from(out: &[u8], from: usize) -> bool {
-    out.iter().skip(from).all(|byte| *byte == MARK)
-}
-
 // Checks that a refused report leaves the lent bytes.
 fn check_left(rt: &impl Print, out: &[u8]) -> io::Result<()> {
-    if left_from(out, 0) {
+    if left_from(out, 0, MARK) {
         return Ok(());
     }
     answer::wrong(rt, "the bytes of a refused report")
@@ -27,7 +22,7 @@ fn check_written(rt: &impl Print, out: &[u8], printed: &[u8]) -> io::Result<()> 
     if !out.starts_with(printed) {
         answer::wrong(rt, "the report is not what is printed")?;
     }
-    if !left_from(out, printed.len()) {
+    if !left_from(out, printed.len(), MARK) {
         answer::wrong(rt, "the bytes behind the report")?;
     }
     Ok(())
@@ -39,7 +34,13 @@ fn check_short(rt: &impl Print, plan: &[u8], room: usize) -> io::Result<()>
 {
     let mut out = [MARK; REPORT];
     let answer = calls::report(plan, &mut out[..room]);
-    if !matches!(answer, Err(Refusal { fault: Fault::NoRoom, .. })) {
+    if !matches!(
+        answer,
+        Err(Refusal {
+            fault: Fault::NoRoom,
+            ..
+        })
+    ) {
         answer::wrong(rt, "the refusal of a report")?;
     }
     check_left(rt, &out)

@@ -1,7 +1,7 @@
 // The calls of starts.
 ghost use Rattle.std.specs.Prelude.{◌≤◌};
 
-use super::answer;
+use super::answer::{self, left_from};
 use rules::{ALL_CONDITIONS, Refusal};
 use std::io;
 
@@ -16,17 +16,12 @@ const ROOM: usize = 64;
 
 const MARK: u32 = 77777;
 
-// Whether every number from `from` on is as it was lent.
-fn left_from(numbers: &[u32], from: usize) -> bool {
-    numbers.iter().skip(from).all(|number| *number == MARK)
-}
-
 // Checks that the records from `from` on are as they were lent.
 fn check_left(rt: &impl Print, firsts: &[u32], lasts: &[u32], from: usize) -> io::Result<()> {
-    if !left_from(firsts, from) {
+    if !left_from(firsts, from, MARK) {
         answer::wrong(rt, "the firsts behind the runs")?;
     }
-    if !left_from(lasts, from) {
+    if !left_from(lasts, from, MARK) {
         answer::wrong(rt, "the lasts behind the runs")?;
     }
     Ok(())

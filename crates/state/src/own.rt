@@ -36,7 +36,7 @@ fn unmet_at_start(placed: &Placed, need: Need, start: u16, end: u16) -> bool
     start < end && standing_at(placed, need.variable, start).code != need.code
 }
 
-// Whether the needs of the candidate are met from `start` to before `end`.
+// Whether the needs of the candidate are met from `start` to before `end`, by loops left by label as document 01 names them.
 pub fn own_needs_met(placed: &Placed, entries: &[Judged], start: u16, end: u16) -> bool
     requires { (placed.now.count < 64) × SettingsBounded placed.now.rows (placed.now.count + 1) × JudgedRight placed.now.rows placed.now.count entries.now }
     ensures { result ≡ own_met placed.now.rows placed.now.count start end }

@@ -48,7 +48,8 @@ pub fn rows_spoilt(entries: &[Judged]) -> usize
     }
 }
 
-// Whether the needs of these entries stay met with the candidate's sets in effect from `effect`.
+// Whether the needs of these entries stay met with the candidate's sets in effect from `effect`, by loops left by label as
+// document 01 names them.
 pub fn placed_needs_met(entries: &[Judged], effect: u16) -> bool
     ensures { result ≡ placed_met (spoil_in entries.now) (end_in entries.now) (length entries.now) effect }
 {

@@ -1,9 +1,0 @@
--- The loop of `reports::left_from` ends.
-use Rattle.std.proofs.Common.{◌-◌, ◌≤◌}
-use Rattle.corpus.proofs.reports.left_from.Given as goal
-
-abbrev pub invariant-loop-i : goal.invariant-loop-i
-invariant-loop-i l = l.from ≤ l.i
-
-abbrev pub decreases-loop-i : goal.decreases-loop-i
-decreases-loop-i l = 4608 - l.i

@@ -1,9 +1,0 @@
--- The loop of `starts::put_runs` ends.
-use Rattle.std.proofs.Common.{◌-◌, ◌≤◌}
-use Rattle.corpus.proofs.starts.put_runs.Given as goal
-
-abbrev pub invariant-loop-i : goal.invariant-loop-i
-invariant-loop-i g l = l.i ≤ l.n
-
-abbrev pub decreases-loop-i : goal.decreases-loop-i
-decreases-loop-i g l = l.n - l.i
