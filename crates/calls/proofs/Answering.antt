@@ -1,63 +1,81 @@
 -- The calls' definitions at each end that the code comes to.
 -- Assumes nothing.
 use Prim.Native.Nat.{ℕ, ◌<◌, ◌≤◌}
-use mathlib.Core.Path.{◌≡◌}
+use mathlib.Core.Path.{◌≡◌, sym, ap, ◌∙◌}
 use mathlib.Core.List.{List}
+use lib.ListN.{length}
 use borrow.Author.Tests.{le-leb, lt-leb, lt-ltb, le-ltb}
 use Rattle.rules.specs.Conditions.{all_conditions}
-use Rattle.rules.specs.Reading.{no, reading}
+use Rattle.std.specs.Prelude.{Ok, Err}
+use Rattle.rules.specs.Refusals.{number_of, Refusal}
+use Rattle.rules.specs.declared.Outcome.{Outcome}
+use Rattle.rules.specs.declared.Refusal.{Refusal as RefusalStruct}
+use Rattle.rules.specs.Reading.{refused, reading}
 use Rattle.rules.specs.Outcomes.{outcome}
 use Rattle.rules.specs.Report.{report, no_line, answer_to, output}
-use Rattle.rules.specs.Calls.{refusal, full, outcome_values, refusing, filling, outcome_of, outcome_call, report_of, report_call, runs, starts_of, starts_call}
-use Rattle.rules.proofs.Ordered.{same_outcome, same_report, same_runs}
+use Rattle.rules.specs.Calls.{refusal, full, outcome_values, outcome_terms, refusing, filling, outcome_of, outcome_call, report_of, report_call, runs, starts_of, starts_call}
+use Rattle.rules.proofs.Ordered.{same_outcome, same_count, same_report, same_runs}
 use Rattle.plan.specs.View.{plan_view}
 use Rattle.plan.specs.declared.Plan.{Plan as PlanStruct}
-use Rattle.placing.proofs.Accepted.{AcceptedAs}
+use Rattle.plan.proofs.Accepted.{accepted_as}
+use Rattle.calls.specs.Called.{OutcomeCalled}
 
 -- the bytes are refused
-module _ (s : List ℕ) (k n : ℕ) (e : reading s ≡ no k n) where
-  pub outcome_refused : (place : ℕ) → outcome_call s place ≡ refusal k n
+module _ (s : List ℕ) (q : Refusal) (e : reading s ≡ refused q) where
+  pub outcome_refused : (place : ℕ) → outcome_call s place ≡ refusal q.number q.line
   unfolding outcome_call outcome_of
   outcome_refused place = rw e
 
-  pub report_refused : (room : ℕ) → report_call s room ≡ refusing k n
+  pub report_refused : (room : ℕ) → report_call s room ≡ refusing q.number q.line
   unfolding report_call report_of
   report_refused room = rw e
 
-  pub starts_refused : (place m room : ℕ) → starts_call s place m room ≡ refusing k n
+  pub starts_refused : (place m room : ℕ) → starts_call s place m room ≡ refusing q.number q.line
   unfolding starts_call starts_of
   starts_refused place m room = rw e
 
-  pub output_refused : output s ≡ no_line (record { number = k; line = n })
+  pub output_refused : output s ≡ no_line q
   unfolding output answer_to
   output_refused = rw e
 
--- they are accepted
-module _ (s : List ℕ) (q : PlanStruct) (A : AcceptedAs s q) where
-  pub outcome_beyond : (place : ℕ) → q.count ≤ place → outcome_call s place ≡ refusal 11 0
-  unfolding outcome_call outcome_of
-  outcome_beyond place h = rw (A.read, A.count, le-leb _ _ h)
+-- they are those of an accepted plan
+module _ (p : PlanStruct) where
+  count_is : length (plan_view p).activities ≡ length (accepted_as p).plan.activities
+  count_is = ap (λ q. length q.activities) (accepted_as p).view ∙ same_count (accepted_as p).plan
 
-  pub outcome_answered : (place : ℕ) → place < q.count → outcome_call s place ≡ full (outcome_values (outcome (plan_view s q) place))
+  pub outcome_beyond : (place : ℕ) → length (plan_view p).activities ≤ place → outcome_call p.bytes.now place ≡ refusal 11 0
   unfolding outcome_call outcome_of
-  outcome_answered place h = rw (A.read, A.count, lt-leb _ _ h, A.view, same_outcome A.plan place)
+  outcome_beyond place h = rw ((accepted_as p).read, ← count_is, le-leb _ _ h)
 
-  pub report_answered : (room : ℕ) → report_call s room ≡ filling room (report (plan_view s q))
+  pub outcome_answered : (place : ℕ) → place < length (plan_view p).activities → outcome_call p.bytes.now place ≡ full (outcome_values (outcome (plan_view p) place))
+  unfolding outcome_call outcome_of
+  outcome_answered place h = let A = accepted_as p in rw (A.read, ← count_is, lt-leb _ _ h, A.view, same_outcome A.plan place)
+
+  pub report_answered : (room : ℕ) → report_call p.bytes.now room ≡ filling room (report (plan_view p))
   unfolding report_call report_of
-  report_answered room = rw (A.read, A.view, same_report A.plan)
+  report_answered room = let A = accepted_as p in rw (A.read, A.view, same_report A.plan)
 
-  pub output_answered : output s ≡ report (plan_view s q)
+  pub output_answered : output p.bytes.now ≡ report (plan_view p)
   unfolding output answer_to
-  output_answered = rw (A.read, A.view, same_report A.plan)
+  output_answered = let A = accepted_as p in rw (A.read, A.view, same_report A.plan)
 
-  pub starts_beyond : (place m room : ℕ) → q.count ≤ place → starts_call s place m room ≡ refusing 11 0
+  pub starts_beyond : (place m room : ℕ) → length (plan_view p).activities ≤ place → starts_call p.bytes.now place m room ≡ refusing 11 0
   unfolding starts_call starts_of
-  starts_beyond place m room h = rw (A.read, A.count, le-leb _ _ h)
+  starts_beyond place m room h = rw ((accepted_as p).read, ← count_is, le-leb _ _ h)
 
-  pub starts_no_set : (place m room : ℕ) → place < q.count → all_conditions < m → starts_call s place m room ≡ refusing 12 0
+  pub starts_no_set : (place m room : ℕ) → place < length (plan_view p).activities → all_conditions < m → starts_call p.bytes.now place m room ≡ refusing 12 0
   unfolding starts_call starts_of
-  starts_no_set place m room h l = rw (A.read, A.count, lt-leb _ _ h, lt-ltb _ _ l)
+  starts_no_set place m room h l = rw ((accepted_as p).read, ← count_is, lt-leb _ _ h, lt-ltb _ _ l)
 
-  pub starts_answered : (place m room : ℕ) → place < q.count → m ≤ all_conditions → starts_call s place m room ≡ filling room (runs (plan_view s q) place m)
+  pub starts_answered : (place m room : ℕ) → place < length (plan_view p).activities → m ≤ all_conditions → starts_call p.bytes.now place m room ≡ filling room (runs (plan_view p) place m)
   unfolding starts_call starts_of
-  starts_answered place m room h l = rw (A.read, A.count, lt-leb _ _ h, le-ltb _ _ l, A.view, same_runs A.plan place m)
+  starts_answered place m room h l = let A = accepted_as p in rw (A.read, ← count_is, lt-leb _ _ h, le-ltb _ _ l, A.view, same_runs A.plan place m)
+
+-- ---- an answer of outcome
+pub outcome_err : (s : List ℕ) (q : RefusalStruct) (place : ℕ) → outcome_call s place ≡ refusal (number_of q.fault) q.line → OutcomeCalled s place (Err q)
+unfolding outcome_terms
+outcome_err s q place e = sym e
+
+pub outcome_ok : (s : List ℕ) (o : Outcome) (place : ℕ) → outcome_call s place ≡ full (outcome_values o) → OutcomeCalled s place (Ok o)
+unfolding outcome_terms
+outcome_ok s o place e = sym e

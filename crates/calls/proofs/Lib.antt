@@ -1,4 +1,3 @@
 pub mod Answering
 pub mod Running
-pub mod Writing
 pub mod Promise

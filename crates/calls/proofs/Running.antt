@@ -1,17 +1,16 @@
--- The runs of starts, counted and written into two slices.
+-- A result and the room for it.
 -- Assumes nothing.
 use Prim.Native.Nat.{ℕ, ◌<◌, ◌≤◌}
-use mathlib.Core.Path.{◌≡◌, refl, ap}
-use mathlib.Core.Bool.{true, false}
+use mathlib.Core.Path.{◌≡◌, refl, ap, ◌∙◌}
 use mathlib.Core.List.{List, [], ◌∷◌, map}
 use native.Mathlib.Omega.{arith}
 use lib.ListN.{length}
 use borrow.Author.Tests.{lt-ltb, le-ltb}
-use Rattle.rules.specs.Calls.{count_terms, refusal, full, Filled, slice_after, refusing, filling}
+use Rattle.std.specs.Prelude.{Ok, Err}
+use Rattle.rules.specs.Refusals.{number_of}
+use Rattle.rules.specs.Calls.{count_terms, full, Filled, slice_after, refusing, filling}
 use Rattle.rules.specs.declared.Interval.{Interval}
-use Rattle.rules.specs.declared.CountAnswer.{CountAnswer}
-use Rattle.rules.specs.declared.CountAnswer.TheVariants.{Count}
-use Rattle.schedule.specs.Search.{column}
+use Rattle.rules.specs.declared.Refusal.{Refusal as RefusalStruct}
 use Rattle.calls.specs.Called.{SliceFilled, ColumnsFilled}
 
 -- a result that the slice is too short for, and one that fits
@@ -23,21 +22,25 @@ pub fitting : {A : Type 0} (room : ℕ) (xs : List A) → length xs ≤ room →
 unfolding filling
 fitting room xs h = rw (le-ltb _ _ h)
 
+-- ---- the answers, by what a call's definition says
 -- a refusal leaves the slices as they were
-pub slice_kept : (f : Filled ℕ) (k n : ℕ) → f ≡ refusing k n → (lent : List ℕ) (r : CountAnswer) → count_terms r ≡ refusal k n → SliceFilled f lent r lent
-unfolding slice_after
-slice_kept f k n e lent r a = rw e (record { answer = a; slice = refl })
+pub slice_kept : (f : Filled ℕ) (q : RefusalStruct) → f ≡ refusing (number_of q.fault) q.line → (lent : List ℕ) → SliceFilled f lent (Err q) lent
+unfolding count_terms slice_after
+slice_kept f q e lent = rw e (record { answer = refl; slice = refl })
 
-pub columns_kept : (f : Filled Interval) (k n : ℕ) → f ≡ refusing k n → (firsts lasts : List ℕ) (r : CountAnswer) → count_terms r ≡ refusal k n → ColumnsFilled f firsts lasts r firsts lasts
-unfolding slice_after
-columns_kept f k n e firsts lasts r a = rw e (record { answer = a; firsts_filled = refl; lasts_filled = refl })
+pub columns_kept : (f : Filled Interval) (q : RefusalStruct) → f ≡ refusing (number_of q.fault) q.line → (firsts lasts : List ℕ) → ColumnsFilled f firsts lasts (Err q) firsts lasts
+unfolding count_terms slice_after
+columns_kept f q e firsts lasts = rw e (record { answer = refl; firsts_filled = refl; lasts_filled = refl })
 
--- runs counted, and their firsts and lasts written
-pub columns_written : (room n : ℕ) (xs : List Interval) → n ≡ length xs → n ≤ room → (lentFirsts lentLasts firsts lasts : List ℕ)
-    → firsts ≡ slice_after (map (column true) xs) lentFirsts → lasts ≡ slice_after (map (column false) xs) lentLasts → ColumnsFilled (filling room xs) lentFirsts lentLasts (Count n) firsts lasts
-unfolding column count_terms
-columns_written room n xs e h lf ll firsts lasts a b = rw (fitting room xs (omega arith)) (record { answer = ap (λ k. full (k ∷ [])) e; firsts_filled = a; lasts_filled = b })
+-- a text handed over
+pub handed : (text lent after : List ℕ) → length text ≤ length lent → after ≡ slice_after text lent → SliceFilled (filling (length lent) text) lent (Ok (length text)) after
+unfolding count_terms
+handed text lent after h e = rw (fitting _ text h) (record { answer = refl; slice = e })
 
--- by another name of what the call answers
-pub columns_as : (f g : Filled Interval) → f ≡ g → (lentFirsts lentLasts firsts lasts : List ℕ) (r : CountAnswer) → ColumnsFilled g lentFirsts lentLasts r firsts lasts → ColumnsFilled f lentFirsts lentLasts r firsts lasts
-columns_as f g e lf ll firsts lasts r F = rw e F
+-- runs counted, and their firsts and lasts written; ys are the runs in the table
+pub columns_written : (room n : ℕ) (xs ys : List Interval) → ys ≡ xs → n ≡ length ys → n ≤ room → (lentFirsts lentLasts firsts lasts : List ℕ)
+    → firsts ≡ slice_after (map (λ r. r.first) ys) lentFirsts → lasts ≡ slice_after (map (λ r. r.last) ys) lentLasts → ColumnsFilled (filling room xs) lentFirsts lentLasts (Ok n) firsts lasts
+unfolding count_terms
+columns_written room n xs ys s e h lf ll firsts lasts a b =
+    let k : n ≡ length xs = e ∙ ap length s in
+    rw (fitting room xs (omega arith)) (record { answer = ap (λ j. full (j ∷ [])) k; firsts_filled = a ∙ ap (λ zs. slice_after (map (λ r. r.first) zs) lf) s; lasts_filled = b ∙ ap (λ zs. slice_after (map (λ r. r.last) zs) ll) s })

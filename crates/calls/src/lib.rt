@@ -23,10 +23,11 @@ pub fn outcome(bytes: &[u8], place: usize) -> Result<Outcome, Refusal>
     ensures { OutcomeCalled bytes.now place result }
 {
     let plan = plan::read(bytes)?;
-    if plan.count() <= place {
-        return Err(refused(Fault::NoPlace));
+    if place < plan.count() {
+        Ok(placing::outcome_at(&plan, place))
+    } else {
+        Err(refused(Fault::NoPlace))
     }
-    Ok(placing::outcome_at(&plan, place))
 }
 
 // Copies a text to the front of a slice and answers its length; a slice too short for it remains.

@@ -1,26 +1,24 @@
--- `outcome` meets its contract.
-use mathlib.Core.Path.{sym, ◌∙◌, ap}
-use native.Mathlib.Omega.{arith}
-use Rattle.rules.specs.Calls.{full, outcome_values, outcome_terms}
+-- The file's refusal, no such place, or the answer at the place.
+use Rattle.std.proofs.Common.{rules, ◌≡◌, Err, arith}
+use Rattle.rules.specs.Refusals.{refusal_view}
 use Rattle.placing.proofs.Accepted.{read_as}
-use Rattle.calls.proofs.Answering.{outcome_refused, outcome_beyond, outcome_answered}
+use Rattle.calls.proofs.Answering.{outcome_refused, outcome_beyond, outcome_answered, outcome_err, outcome_ok}
 use Rattle.calls.proofs.outcome.Goals as goal
 
-pub returns-then-reading-ne0 : goal.returns-then-reading-ne0
-unfolding outcome_terms
-returns-then-reading-ne0 c = let read = c.read-reading in sym (outcome_refused _ _ _ ((read_as read.result _ read.ensures.result_value read.ensures.plan_said).refused (λ e. omega arith)) _)
+pub returns-in_err-plan : goal.returns-in_err-plan
+unfolding refusal_view
+returns-in_err-plan c =
+    let s = c.args.bytes.now in
+    let q = c.in_err-plan.field-0.0 in
+    let r : c.from_residual.result ≡ Err q = search rules in
+    rw r (outcome_err s q c.args.place (outcome_refused s (refusal_view q) (read_as s (Err q) c.in_err-plan.ensures.value c.in_err-plan.ensures.bytes) c.args.place))
 
-pub returns-then-plan-place : goal.returns-then-plan-place
-unfolding outcome_terms
-returns-then-plan-place c =
-    let read = c.read-reading in
-    sym (outcome_beyond _ _ ((read_as read.result _ read.ensures.result_value read.ensures.plan_said).accepted (omega arith)) _ (omega arith))
+pub returns-else-place-count : goal.returns-else-place-count
+returns-else-place-count c =
+    let p = c.in_ok-plan.plan in
+    rw (← c.in_ok-plan.ensures.bytes, c.refused.ensures) (outcome_err p.bytes.now _ c.args.place (outcome_beyond p c.args.place (omega (arith, c.count.ensures.value))))
 
-pub outcome_at-requires : goal.outcome_at-requires
-outcome_at-requires c = let read = c.read-reading in (((read_as read.result _ read.ensures.result_value read.ensures.plan_said).accepted (omega arith)).placeable, omega arith)
-
-pub returns : goal.returns
-unfolding outcome_terms
-returns c =
-    let read = c.read-reading in
-    ap (λ o. full (outcome_values o)) c.outcome_at.ensures ∙ sym (outcome_answered _ _ ((read_as read.result _ read.ensures.result_value read.ensures.plan_said).accepted (omega arith)) _ (omega arith))
+pub returns-then-place-count : goal.returns-then-place-count
+returns-then-place-count c =
+    let p = c.in_ok-plan.plan in
+    rw (← c.in_ok-plan.ensures.bytes, c.outcome_at.ensures) (outcome_ok p.bytes.now _ c.args.place (outcome_answered p c.args.place (omega (arith, c.count.ensures.value))))

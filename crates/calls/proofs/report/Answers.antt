@@ -1,36 +1,20 @@
--- `report` meets its contract.
-use Prim.Native.Nat.{ℕ}
-use mathlib.Core.Path.{sym, ◌∙◌, ap}
-use native.Mathlib.Omega.{arith}
-use lib.ListN.{length-replicate}
-use lib.Seq.{length-take-le}
-use Rattle.rules.specs.Calls.{filling}
-use Rattle.report.proofs.Writing.{wrote_length}
+-- The file's refusal, or the report handed over.
+use Rattle.std.proofs.Common.{rules, ◌≡◌, Err, length}
+use Rattle.rules.specs.Refusals.{refusal_view}
 use Rattle.placing.proofs.Accepted.{read_as}
 use Rattle.calls.proofs.Answering.{report_refused, report_answered}
 use Rattle.calls.proofs.Running.{slice_kept}
-use Rattle.calls.proofs.Writing.{front_is, slice_as}
 use Rattle.calls.proofs.report.Goals as goal
 
-pub returns-then-reading-ne0 : goal.returns-then-reading-ne0
-returns-then-reading-ne0 c = let read = c.read-reading in slice_kept _ _ _ (report_refused _ _ _ ((read_as read.result _ read.ensures.result_value read.ensures.plan_said).refused (λ e. omega arith)) _) _ _ c.refuse.ensures
-
-pub put_report-length-requires : goal.put_report-length-requires
-put_report-length-requires c = let read = c.read-reading in ((read_as read.result _ read.ensures.result_value read.ensures.plan_said).accepted (omega arith)).placeable
-
-pub slice_bounds-written-end : goal.slice_bounds-written-end
-slice_bounds-written-end c =
-    let n = length-replicate {A = ℕ} 4608 0 in
-    let m = wrote_length _ _ _ _ _ c.put_report-length.ensures.0 (omega (arith, c.put_report-length.ensures.1, n)) in
-    omega (arith, c.put_report-length.ensures.1, m, n)
-
-pub slice_bounds-hand_over-end : goal.slice_bounds-hand_over-end
-slice_bounds-hand_over-end c =
-    let n = length-replicate {A = ℕ} 4608 0 in
-    let m = wrote_length _ _ _ _ _ c.put_report-length.ensures.0 (omega (arith, c.put_report-length.ensures.1, n)) in
-    sym (length-take-le _ _ (omega (arith, c.put_report-length.ensures.1, m, n)))
+pub returns-in_err-plan : goal.returns-in_err-plan
+unfolding refusal_view
+returns-in_err-plan c =
+    let s = c.args.bytes.now in
+    let q = c.in_err-plan.field-0.0 in
+    let r : c.from_residual.result ≡ Err q = search rules in
+    rw r (slice_kept _ q (report_refused s (refusal_view q) (read_as s (Err q) c.in_err-plan.ensures.value c.in_err-plan.ensures.bytes) _) c.args.out.now)
 
 pub returns : goal.returns
 returns c =
-    let read = c.read-reading in
-    slice_as _ _ (report_answered _ _ ((read_as read.result _ read.ensures.result_value read.ensures.plan_said).accepted (omega arith)) _ ∙ ap (filling _) (sym (front_is _ _ _ _ c.put_report-length.ensures.0))) _ _ _ c.hand_over.ensures
+    let p = c.in_ok-plan.plan in
+    rw (← c.in_ok-plan.ensures.bytes, report_answered p (length c.args.out.now), ← c.report_of.ensures, ← c.as_slice.ensures.value) c.hand_over.ensures

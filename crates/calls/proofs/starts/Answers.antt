@@ -1,27 +1,30 @@
--- `starts` meets its contract.
-use native.Mathlib.Omega.{arith}
+-- The file's refusal, no such place, no such set, or the runs at the place.
+use Rattle.std.proofs.Common.{rules, ◌≡◌, Err, arith, length, min}
+use Rattle.rules.specs.Refusals.{refusal_view}
 use Rattle.placing.proofs.Accepted.{read_as}
 use Rattle.calls.proofs.Answering.{starts_refused, starts_beyond, starts_no_set, starts_answered}
-use Rattle.calls.proofs.Running.{columns_kept, columns_as}
+use Rattle.calls.proofs.Running.{columns_kept}
 use Rattle.calls.proofs.starts.Goals as goal
 
-pub returns-then-reading-ne0 : goal.returns-then-reading-ne0
-returns-then-reading-ne0 c = let read = c.read-reading in columns_kept _ _ _ (starts_refused _ _ _ ((read_as read.result _ read.ensures.result_value read.ensures.plan_said).refused (λ e. omega arith)) _ _ _) _ _ _ c.refuse.ensures
+pub returns-in_err-plan : goal.returns-in_err-plan
+unfolding refusal_view
+returns-in_err-plan c =
+    let s = c.args.bytes.now in
+    let q = c.in_err-plan.field-0.0 in
+    let r : c.from_residual.result ≡ Err q = search rules in
+    rw r (columns_kept _ q (starts_refused s (refusal_view q) (read_as s (Err q) c.in_err-plan.ensures.value c.in_err-plan.ensures.bytes) _ _ _) c.args.firsts.now c.args.lasts.now)
 
 pub returns-then-count-place : goal.returns-then-count-place
 returns-then-count-place c =
-    let read = c.read-reading in
-    columns_kept _ _ _ (starts_beyond _ _ ((read_as read.result _ read.ensures.result_value read.ensures.plan_said).accepted (omega arith)) _ _ _ (omega arith)) _ _ _ c.refuse-then-count-place.ensures
+    let p = c.in_ok-plan.plan in
+    rw (← c.in_ok-plan.ensures.bytes, c.refused.ensures) (columns_kept _ _ (starts_beyond p _ _ _ (omega (arith, c.count.ensures.value))) c.args.firsts.now c.args.lasts.now)
 
-pub returns-then-set : goal.returns-then-set
-returns-then-set c =
-    let read = c.read-reading in
-    columns_kept _ _ _ (starts_no_set _ _ ((read_as read.result _ read.ensures.result_value read.ensures.plan_said).accepted (omega arith)) _ _ _ (omega arith) (omega arith)) _ _ _ c.refuse-then-set.ensures
-
-pub runs_at-requires : goal.runs_at-requires
-runs_at-requires c = let read = c.read-reading in (((read_as read.result _ read.ensures.result_value read.ensures.plan_said).accepted (omega arith)).placeable, omega arith)
+pub returns-then-from-set : goal.returns-then-from-set
+returns-then-from-set c =
+    let p = c.in_ok-plan.plan in
+    rw (← c.in_ok-plan.ensures.bytes, c.refused-then-from-set.ensures) (columns_kept _ _ (starts_no_set p _ _ _ (omega (arith, c.count.ensures.value)) (omega arith)) c.args.firsts.now c.args.lasts.now)
 
 pub returns : goal.returns
 returns c =
-    let read = c.read-reading in
-    columns_as _ _ (starts_answered _ _ ((read_as read.result _ read.ensures.result_value read.ensures.plan_said).accepted (omega arith)) _ _ _ (omega arith) (omega arith)) _ _ _ _ _ c.runs_at.ensures
+    let p = c.in_ok-plan.plan in
+    rw (← c.in_ok-plan.ensures.bytes, starts_answered p c.args.place c.args.set (min (length c.args.firsts.now) (length c.args.lasts.now)) (omega (arith, c.count.ensures.value)) (omega arith)) c.runs_at.ensures
