@@ -1,16 +1,16 @@
 -- The report, line by line.
 -- Assumes nothing.
 use Prim.Native.Nat.{ℕ, ◌+◌, ◌-◌}
-use mathlib.Core.Path.{◌≡◌, refl, ap, ◌∙◌}
+use mathlib.Core.Path.{◌≡◌, refl, ap}
 use mathlib.Core.List.{List, ◌++◌}
 use native.Mathlib.Numerals.{add-one}
 use lib.IntN.{pos}
 use lib.ListN.{length}
-use Rattle.rules.specs.Plan.{Header, Activity, Plan, Schedule}
+use Rattle.rules.specs.Plan.{Header, Plan, Schedule}
 use Rattle.rules.specs.MeetsB.{charge}
 use Rattle.rules.specs.MeetsV.{total_volume}
-use Rattle.rules.specs.Outcomes.{activity_at, placed, outcome, finished}
-use Rattle.rules.specs.Report.{outcome_line, outcome_lines, end_line, report}
+use Rattle.rules.specs.Outcomes.{activity_at, placed, outcome}
+use Rattle.rules.specs.Report.{outcome_line, outcome_lines, end_line}
 use Rattle.rules.specs.declared.Outcome.{Outcome}
 use Rattle.rules.specs.declared.Outcome.TheVariants.{Placed, Refused}
 use Rattle.activity.specs.View.{activity_view}

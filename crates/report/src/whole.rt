@@ -6,7 +6,7 @@ ghost use Rattle.rules.specs.Report.{outcome_lines, end_line, report, no_line};
 ghost use Rattle.activity.specs.View.{header_view};
 ghost use Rattle.plan.specs.View.{plan_view};
 ghost use Rattle.placing.specs.Places.{PlacedTo};
-ghost use Rattle.report.specs.Lines.{line_most, end_most};
+ghost use Rattle.report.specs.Lines.{line_most, end_most, report_most};
 ghost use Rattle.report.specs.Finished.{RowsSay, Finished};
 
 use crate::lines::{Report, put_end, put_no, put_outcome};
@@ -30,18 +30,13 @@ fn put_lines(plan: &Plan, placing: &Placing, out: &mut Report)
 
 // Writes the end line of a plan of `count` activities, of which these are placed.
 fn put_finished(header: Header, count: usize, placed: &Placed, out: &mut Report)
-    requires { Finished header placed.now.rows placed.now.count × (placed.now.count ≤ count) × (length out.old + end_most ≤ REPORT) }
+    requires { Finished header placed.now.rows placed.now.count × (placed.now.count ≤ count) × (length out.old + end_most ≤ report_most) }
     ensures { (before : Schedule) → RowsSay header placed.now.rows placed.now.count before → out.new ≡ out.old ++ end_line (header_view header) count before }
 {
     let refused = count - placed.count;
     let charge = charge::last_charge(header, placed);
-    put_end(
-        out,
-        placed.count as u64,
-        refused as u64,
-        charge,
-        placed.total_volume(),
-    );
+    let volume = placed.total_volume();
+    put_end(out, placed.count as u64, refused as u64, charge, volume);
 }
 
 // The report of a plan.
@@ -57,6 +52,7 @@ pub fn report_of(plan: &Plan) -> Report
 }
 
 // The `no` line of a refused plan.
+#[tactic(auto, unfolding(rules::specs::Report::no_line, rules::specs::Refusals::refusal_view, crate::specs::Lines::no_text))]
 pub fn no_line_of(refused: Refusal) -> Report
     ensures { result ≡ no_line (refusal_view refused) }
 {

@@ -1,5 +1,5 @@
 -- All letters are gone through.
-use Rattle.std.proofs.Common.{◌≡◌, ◌∙◌, arith, rules}
+use Rattle.std.proofs.Common.{◌≡◌, arith, rules}
 use Rattle.rules.specs.Conditions.{condition_count, condition_letters, letters_from, letters_of}
 use Rattle.report.proofs.letters.letters.Goals as goal
 

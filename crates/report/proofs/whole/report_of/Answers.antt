@@ -1,0 +1,29 @@
+-- The lines of the places, then the end line of what they place.
+use native.Mathlib.Omega.{arith}
+use mathlib.Core.Path.{refl, ◌∙◌}
+use Rattle.rules.specs.Outcomes.{finished}
+use Rattle.rules.specs.Report.{report}
+use Rattle.plan.specs.View.{plan_view}
+use Rattle.placed.proofs.Bounding.{ticks_bounded_lem, amounts_bounded_lem}
+use Rattle.placing.proofs.Accepted.{placeable}
+use Rattle.report.proofs.LineByLine.{rows_say}
+use Rattle.report.proofs.whole.report_of.Goals as goal
+
+pub put_finished-requires : goal.put_finished-requires
+put_finished-requires c =
+    let S = c.place_to-placing.ensures in
+    let few = (placeable c.args.plan.now).few in
+    let R = rows_say S in (
+      record {
+        ticks_bounded = ticks_bounded_lem _ _ _ _ S.held S.reached (omega (arith, S.few, c.count.ensures.value));
+        amounts_bounded = amounts_bounded_lem _ _ _ _ S.held S.reached;
+        placed = _;
+        say = R;
+      },
+      omega (arith, S.few, c.count.ensures.value, c.count-2.ensures.value),
+      omega (arith, few, c.put_lines.ensures.within),
+    )
+
+pub returns : goal.returns
+unfolding report finished plan_view
+returns c = c.put_finished.ensures _ (rows_say c.place_to-placing.ensures) ∙ rw (c.put_lines.ensures.text, c.count-2.ensures.value, c.count.ensures.value) refl
