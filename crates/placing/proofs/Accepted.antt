@@ -1,6 +1,6 @@
 -- What the reader answers: the refusal that the definition reads, or a plan that can be placed.
 -- Assumes nothing.
-use Rattle.std.proofs.Common.{◌≡◌, ◌<◌, ◌∙◌, ℕ, List, Result, Ok, Err, IfOk, length, refl, sym, ap, arith}
+use Rattle.std.proofs.Common.{◌≡◌, ◌<◌, ℕ, List, Result, Ok, Err, IfOk, length, sym, ap}
 use Rattle.rules.specs.Plan.{Plan}
 use Rattle.rules.specs.Order.{order}
 use Rattle.rules.specs.OrderRight.{nth_activity}

@@ -1,7 +1,7 @@
 -- What is placed grows place by place as document 01 says, and stays one that the conditions can be tested beside.
 -- Assumes nothing.
 use Prim.Native.Nat.{ℕ, ◌+◌, ◌<◌, ◌≤◌}
-use mathlib.Core.Path.{◌≡◌, refl, sym, ◌∙◌, ap, subst}
+use mathlib.Core.Path.{◌≡◌, refl, sym, ◌∙◌, subst}
 use mathlib.Core.List.{List, [], ◌∷◌, Memᴰ}
 use mathlib.Core.List.Memᴰ
 use native.Mathlib.Numerals.{add-one}

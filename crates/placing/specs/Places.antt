@@ -3,9 +3,8 @@ use Rattle.std.specs.Prelude.{ℕ, ◌<◌, ◌≤◌, ◌≡◌, List, length, 
 use Rattle.rules.specs.Order.{order}
 use Rattle.rules.specs.WellFormed.{HeaderFormed, ActivityFormed, Reachable}
 use Rattle.rules.specs.Conditions.{meets}
-use Rattle.rules.specs.Outcomes.{no_activity, starts, activity_at, placed, outcome}
+use Rattle.rules.specs.Outcomes.{starts, activity_at, placed, outcome}
 use Rattle.rules.specs.declared.Outcome.TheVariants.{Placed}
-use Rattle.activity.specs.View.{header_view}
 use Rattle.plan.specs.View.{plan_view}
 use Rattle.plan.specs.declared.Plan.{Plan as PlanStruct}
 use Rattle.placed.specs.Held.{Held, Reached}

@@ -37,7 +37,12 @@ impl Placing {
 }
 
 // The candidate answered beside those placed, by its table of sets, which is filled.
-fn reply_to(header: Header, candidate: &Activity, placed: &Placed, table: &mut [u16; TICKS]) -> Outcome
+fn reply_to(
+    header: Header,
+    candidate: &Activity,
+    placed: &Placed,
+    table: &mut [u16; TICKS],
+) -> Outcome
     requires { Ready header candidate.now placed.now.rows placed.now.count }
     ensures value { (before : Schedule) → Beside header candidate.now placed.now.rows placed.now.count before → result ≡ reply (header_view header) before (activity_view candidate.now) }
     ensures table { (before : Schedule) → Beside header candidate.now placed.now.rows placed.now.count before → Table (meets (header_view header) before (activity_view candidate.now)) (starts (header_view header) (activity_view candidate.now)) table.new }

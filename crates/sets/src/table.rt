@@ -4,7 +4,8 @@ ghost use Rattle.sets.specs.Table.{Marked, Markable};
 
 use rules::TICKS;
 
-// Adds `by` to the entry of the start s where it meets the condition.
+// Adds `by` to the entry of the start s where it meets the condition: for tests that change from start to start what they
+// go by, as loads and trials do; all others are closures of `mark_where`.
 pub fn raise(s: u32, met: bool, by: u16, table: &mut [u16])
     requires { (s < length table.old) × (get_or table.old s 0 + by < 65536) }
     ensures { table.new ≡ set table.old s (get_or table.old s 0 + cond met by 0) }

@@ -73,6 +73,7 @@ fn mark_kept(
         charges: &charges,
         spare: spare_charge(drawn.header, &charges),
     };
+    // Not by `mark_where`, since a trial writes its charges.
     let mut trial = [0i64; CHARGES];
     for s in 0..count {
         let own = own_draw(drawn.header, s, duration, draw, warm);

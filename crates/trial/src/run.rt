@@ -38,6 +38,7 @@ fn run_until<E: Fn(usize, i64) -> bool>(
     let floor = i64::from(floor);
     let more = u64::from(by);
     let mut c = charges[from];
+    // By the tick, which is answered, and which is the place of two arrays' numbers.
     for t in from..to {
         if c < floor || ends(t, c) {
             return t;

@@ -1,8 +1,5 @@
 -- `mark` meets its contract: each number picks its condition.
-use native.Mathlib.Omega.{arith}
 use borrow.Author.Rules.{rules}
-use mathlib.Core.Path.{◌≡◌}
-use lib.ListN.{length}
 use Rattle.conditions.proofs.Picked.{picked, needs, windows_are, after_are, units_are, state_is, engines_are, peaks_are, charge_is, volume_is, warmup_is}
 use Rattle.conditions.proofs.mark.Goals as goal
 

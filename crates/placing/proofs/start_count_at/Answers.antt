@@ -1,5 +1,4 @@
 -- `start_count_at` meets its contract.
-use Rattle.activity.specs.View.{activity_view}
 use Rattle.plan.specs.View.{plan_view}
 use Rattle.placing.proofs.ByPlace.{header_formed, formed}
 use Rattle.placing.proofs.start_count_at.Goals as goal

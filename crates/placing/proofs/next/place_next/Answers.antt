@@ -1,5 +1,5 @@
 -- `place_next` meets its contract.
-use Rattle.std.proofs.Common.{◌≡◌, ◌<◌, arith, length, rules, refl}
+use Rattle.std.proofs.Common.{arith, rules, refl}
 use Rattle.activity.specs.View.{header_view, activity_view}
 use Rattle.placing.proofs.Accepted.{placeable}
 use Rattle.placing.proofs.ByPlace.{header_formed, formed, beside, right, placed_next, table_is}

@@ -1,5 +1,5 @@
 -- `reply_to` meets its contract.
-use Rattle.std.proofs.Common.{◌≡◌, ◌≤◌, ◌∙◌, arith, length}
+use Rattle.std.proofs.Common.{◌≤◌, ◌∙◌, arith, length}
 use Rattle.std.proofs.lemmas.List.{length-take-le}
 use Rattle.rules.specs.Outcomes.{distance, reply}
 use Rattle.activity.specs.View.{activity_view}
