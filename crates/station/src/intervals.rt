@@ -1,9 +1,28 @@
-// Runs of starts, put together from two columns of numbers.
+// The starts call over a slice of interval structs: its runs in two columns of numbers, and these put together.
 ghost use Rattle.std.specs.Prelude.{◌≡◌, ◌≤◌, length};
-ghost use Rattle.rules.specs.Calls.{slice_after};
-ghost use Rattle.station.specs.Columns.{pairs};
+ghost use Rattle.rules.specs.Calls.{slice_after, starts_call};
+ghost use Rattle.station.specs.Columns.{ColumnsHeld, pairs};
 
-use rules::Interval;
+use rules::{Interval, Refusal};
+
+// The most runs that a plan's starts have.
+pub const RUNS: usize = 2048;
+
+// The starts call for a slice of `room` records: the first start of each run in a column, the last in another.
+pub fn columns(
+    plan: &[u8],
+    place: usize,
+    set: u32,
+    room: usize,
+    firsts: &mut [u32],
+    lasts: &mut [u32],
+) -> Result<usize, Refusal>
+    requires { (length firsts.old ≡ 2048) × (length lasts.old ≡ 2048) }
+    ensures { ColumnsHeld (starts_call plan.now place set room) result firsts.new lasts.new }
+{
+    let held = room.min(RUNS);
+    calls::starts(plan, place, set, &mut firsts[..held], &mut lasts[..held])
+}
 
 // Puts the runs of two columns, their firsts and their lasts, together at the front of `out`.
 pub fn put_runs(out: &mut [Interval], firsts: &[u32], lasts: &[u32])

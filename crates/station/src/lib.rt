@@ -4,14 +4,12 @@ ghost use Rattle.std.specs.Prelude.{◌≡◌};
 ghost use Rattle.station.specs.Exported.{OutcomeExported, ReportExported, StartsExported};
 ghost use Rattle.station.specs.Version.{version};
 
-use rules::Interval;
-
 mod intervals;
 
-const VERSION: u32 = 1;
+use intervals::{RUNS, columns, put_runs};
+use rules::Interval;
 
-// The most runs that a plan's starts have.
-const RUNS: usize = 2048;
+const VERSION: u32 = 1;
 
 // The version of the library (specs/Version.antt).
 pub fn planner_version() -> u32
@@ -41,10 +39,10 @@ pub fn planner_starts(plan: &[u8], place: usize, set: u32, out: &mut [Interval])
 {
     let mut firsts = [0; RUNS];
     let mut lasts = [0; RUNS];
-    let room = out.len().min(RUNS);
-    let answer = calls::starts(plan, place, set, &mut firsts[..room], &mut lasts[..room]);
-    if let Ok(count) = answer {
-        intervals::put_runs(out, &firsts[..count], &lasts[..count]);
+    let answer = columns(plan, place, set, out.len(), &mut firsts, &mut lasts);
+    match answer {
+        Ok(count) => put_runs(out, &firsts[..count], &lasts[..count]),
+        Err(_) => {}
     }
     packing::pack_count(answer)
 }

@@ -1,7 +1,6 @@
 -- All runs are put together.
-use Rattle.std.proofs.Common.{◌≡◌, List, arith, length, length-take-le, refl}
+use Rattle.std.proofs.Common.{arith, length, length-take-le, refl}
 use Rattle.rules.specs.Calls.{slice_after}
-use Rattle.station.specs.Columns.{pairs}
 use Rattle.station.proofs.Pairs.{pairs_are, pairs_length}
 use Rattle.station.proofs.intervals.put_runs.Goals as goal
 
