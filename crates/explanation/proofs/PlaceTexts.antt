@@ -1,14 +1,15 @@
 -- The text of the places, one place after the other.
 -- Assumes nothing.
-use Prim.Native.Nat.{ℕ, zero, suc, ◌+◌, ◌-◌, ◌^◌}
-use mathlib.Core.Path.{◌≡◌, refl}
+use Prim.Native.Nat.{ℕ, zero, suc, ◌+◌, ◌-◌, ◌^◌, ◌≤◌}
+use mathlib.Core.Path.{◌≡◌, refl, sym}
 use mathlib.Core.List.{List, ◌++◌}
 use native.Mathlib.Numerals.{add-one}
 use lib.ListN.{length, take}
 use Rattle.rules.specs.Plan.{Activity, Plan}
 use Rattle.rules.specs.Conditions.{condition_count, all_conditions}
 use Rattle.rules.specs.Ordered.{ordered}
-use Rattle.rules.specs.Outcomes.{starts, activity_at, outcome}
+use Rattle.rules.specs.Outcomes.{starts, activity_at, placed, outcome}
+use Rattle.rules.proofs.Answers.{replied}
 use Rattle.rules.specs.Calls.{runs}
 use Rattle.rules.specs.declared.Interval.{Interval}
 use Rattle.rules.specs.declared.Outcome.{Outcome}
@@ -17,9 +18,14 @@ use Rattle.rules.proofs.Ordered.{same_activity, same_outcome, same_count, same_r
 use Rattle.plan.specs.View.{plan_view}
 use Rattle.plan.specs.declared.Plan.{Plan as PlanStruct}
 use Rattle.placing.specs.Places.{TableAt}
-use Rattle.placing.proofs.Placing.{runs_are}
+use Rattle.placing.proofs.ByPlace.{runs_are}
+use Rattle.plan.proofs.Accepted.{accepted_as}
+use Rattle.rules.specs.Refusals.{Refusal}
+use Rattle.rules.specs.Reading.{refused, reading}
+use Rattle.refusal.specs.Refused.{refused_text}
+use Rattle.explanation.specs.Explained.{explained_as, explained}
 use Rattle.explanation.specs.Places.{letter_text, letter_texts, outcome_text, place_text, place_texts, accepted_text}
-use Rattle.explanation.specs.Tabled.{runs_in}
+use Rattle.explanation.specs.Tabled.{Small, runs_in}
 
 -- the same runs make the same text
 module _ (r q : ℕ → List Interval) (h : (m : ℕ) → r m ≡ q m) where
@@ -38,8 +44,14 @@ module _ (r q : ℕ → List Interval) (h : (m : ℕ) → r m ≡ q m) where
   outcome_alike a (Refused m) = rw (letters_alike m condition_count)
 
 -- the outcome's text by the table of the place
-pub outcome_is : (p : PlanStruct) (k : ℕ) (table : List ℕ) → TableAt p k table → (count : ℕ) → count ≡ starts (plan_view p).header (activity_at (plan_view p) k) → (a : Activity) (o : Outcome) → outcome_text (runs_in (take count table)) a o ≡ outcome_text (runs (plan_view p) k) a o
-outcome_is p k table T count e a o = outcome_alike (runs_in (take count table)) (runs (plan_view p) k) (λ m. runs_are p k table T m count e) a o
+pub outcome_is : (p : PlanStruct) (k : ℕ) (table : List ℕ) → TableAt p k table → (count : ℕ) → count ≡ starts (plan_view p).header (activity_at (plan_view p) k) → count ≤ length table → (a : Activity) (o : Outcome) → outcome_text (runs_in (take count table)) a o ≡ outcome_text (runs (plan_view p) k) a o
+outcome_is p k table T count e long a o = outcome_alike (runs_in (take count table)) (runs (plan_view p) k) (λ m. runs_are p k table T count m e long) a o
+
+-- the letters of a refusal are among the conditions
+pub small_is : (p : Plan) (k : ℕ) (o : Outcome) → o ≡ outcome p k → Small o
+unfolding outcome
+small_is p k (Placed s) e = tt
+small_is p k (Refused m) e = ((replied p.header (placed p k) (activity_at p k)).refused m (sym e)).small
 
 -- one place more
 pub places_more : (p : Plan) (k : ℕ) → place_texts p (k + 1) ≡ place_texts p k ++ place_text p k
@@ -60,3 +72,12 @@ module _ (p : Plan) where
   pub accepted_ordered : accepted_text (ordered p) ≡ accepted_text p
   unfolding accepted_text
   accepted_ordered = rw (same_count p, places_ordered (length p.activities))
+
+-- the text of a plan's bytes is that of their plan
+pub explained_accepted : (p : PlanStruct) → explained p.bytes.now ≡ accepted_text (plan_view p)
+unfolding explained explained_as
+explained_accepted p = let A = accepted_as p in rw (A.read, A.view) (sym (accepted_ordered A.plan))
+
+pub explained_refused : (s : List ℕ) (q : Refusal) → reading s ≡ refused q → explained s ≡ refused_text s q
+unfolding explained explained_as
+explained_refused s q e = rw e refl

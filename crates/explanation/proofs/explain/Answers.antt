@@ -1,0 +1,26 @@
+-- The whole text is written from its beginning, and leaves its part.
+use Rattle.std.proofs.Common.{◌∙◌, ap, Err}
+use Rattle.rules.specs.Refusals.{refusal_view}
+use Rattle.plan.specs.View.{plan_view}
+use Rattle.placing.proofs.Accepted.{read_as}
+use Rattle.refusal.specs.Refused.{refused_text}
+use Rattle.explanation.specs.Places.{accepted_text}
+use Rattle.wording.specs.Writing.{Written, with_more}
+use Rattle.wording.proofs.Pieces.{more_part}
+use Rattle.explanation.proofs.PlaceTexts.{explained_accepted, explained_refused}
+use Rattle.explanation.proofs.explain.Goals as goal
+
+pub returns-in-Ok : goal.returns-in-Ok
+returns-in-Ok c =
+    let p = c.in-Ok.plan in
+    let text = accepted_text (plan_view p) in
+    rw (← c.in-Ok.ensures.bytes, explained_accepted p) (ap (λ (v : Written). v.bytes) (c.put_accepted.ensures ∙ ap (λ (v : Written). with_more v text) c.new-out.ensures) ∙ more_part c.args.from text)
+
+pub returns-in-Err : goal.returns-in-Err
+returns-in-Err c =
+    let s = c.args.bytes.now in
+    let q = c.in-Err.refused in
+    let text = refused_text s (refusal_view q) in
+    rw (explained_refused s (refusal_view q) (read_as s (Err q) c.in-Err.ensures.value c.in-Err.ensures.bytes)) (
+    ap (λ (v : Written). v.bytes) (c.put_refusal.ensures ∙ ap (λ (v : Written). with_more v text) c.new-out.ensures) ∙ more_part c.args.from text
+    )
