@@ -22,7 +22,6 @@ fn first_end(entries: &[Row], id: u32) -> Option<u16>
 
 // The first start at which each activity in `after` is placed and has ended, none where one is not placed.
 fn ready_from(placed: &Placed, after: &[Item]) -> Option<u16>
-    requires { placed.now.count ≤ 64 }
     ensures { IsReady (ready_from placed.now.rows placed.now.count (map number_of after.now) (length after.now)) result }
 {
     let mut ready = 0;
@@ -34,7 +33,7 @@ fn ready_from(placed: &Placed, after: &[Item]) -> Option<u16>
 
 // Marks the starts that meet D.
 pub fn mark_after(placed: &Placed, after: &[Item], count: u32, by: u16, table: &mut [u16])
-    requires { (placed.now.count ≤ 64) × Markable by count table.old }
+    requires { Markable by count table.old }
     ensures { Marked (leb (ready_from placed.now.rows placed.now.count (map number_of after.now) (length after.now))) by count table.old table.new }
 {
     if let Some(ready) = ready_from(placed, after) {

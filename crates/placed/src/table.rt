@@ -17,6 +17,7 @@ use rules::PLACES;
 pub struct Placed {
     pub rows: [Row; PLACES],
     pub count: usize,
+    pub ghost few: { count ≤ 64 },
 }
 
 impl Placed {
@@ -32,7 +33,6 @@ impl Placed {
 
     // The rows of what is placed.
     pub fn entries(&self) -> &[Row]
-        requires { self.now.count ≤ 64 }
         ensures value { result.now ≡ take self.now.count self.now.rows }
         ensures size { length result.now ≡ self.now.count }
     {
@@ -78,7 +78,6 @@ impl Placed {
 
     // The volumes of what is placed, summed.
     pub fn total_volume(&self) -> u64
-        requires { self.now.count ≤ 64 }
         ensures { (result ≡ volumes_in self.now.rows self.now.count) × (result ≤ 274877906944) }
     {
         let mut sum = 0;

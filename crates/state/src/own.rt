@@ -12,7 +12,7 @@ use placed::{Need, Placed};
 // The code that stands of the variable of a need; 0 where there is no such need.
 #[tactic(auto, unfolding(crate::specs::Own::code_of_need))]
 pub fn code_of_need(placed: &Placed, need: Need, tick: u16) -> u16
-    requires { (placed.now.count ≤ 64) × (need.variable < 8) }
+    requires { need.variable < 8 }
     ensures { result ≡ code_of_need placed.now.rows placed.now.count need tick }
 {
     if need.code == 0 {
@@ -30,7 +30,7 @@ fn is_unmet(need: u16, standing: u16, tick: u16, start: u16, end: u16) -> bool
 
 // Whether a need of the candidate is unmet at its start.
 fn unmet_at_start(placed: &Placed, need: Need, start: u16, end: u16) -> bool
-    requires { (placed.now.count ≤ 64) × (need.variable < 8) }
+    requires { need.variable < 8 }
     ensures { result ≡ (ltb start end && not (eqb (standing_by placed.now.rows need.variable start placed.now.count).code need.code)) }
 {
     start < end && standing_at(placed, need.variable, start).code != need.code

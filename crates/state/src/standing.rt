@@ -25,7 +25,7 @@ fn later(end: u16, code: u16, tick: u16, before: StandingValue) -> StandingValue
 
 // The value of a variable that stands at a tick by the sets of the placed.
 pub fn standing_at(placed: &Placed, variable: u16, tick: u16) -> StandingValue
-    requires { (placed.now.count ≤ 64) × (variable < 8) }
+    requires { variable < 8 }
     ensures { result ≡ standing_by placed.now.rows variable tick placed.now.count }
 {
     let mut standing = StandingValue { since: 0, code: 1 };
