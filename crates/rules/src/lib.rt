@@ -1,7 +1,6 @@
 #![tactic(auto)]
-// The numbers and types that the planner's crates share, the warm-up table, and a search.
+// The numbers and types that the planner's crates share, and the warm-up table.
 ghost use Rattle.std.specs.Prelude.{◌≡◌, ◌≤◌, eqb, length, take};
-ghost use Rattle.rules.specs.Tests.{any_of};
 ghost use Rattle.rules.specs.Refusals.{number_of};
 ghost use Rattle.rules.specs.Warmup.{warmup_at};
 
@@ -101,12 +100,4 @@ pub fn warmup_at(minute: u32, start: u32, warm: u32) -> u32
     }
     let q = (u64::from(minute) + u64::from(start)) % 1440 / 5;
     WARMUP[q as usize]
-}
-
-// Whether x is among the first n.
-pub fn among(xs: &[u32], n: usize, x: u32) -> bool
-    requires { n ≤ length xs.now }
-    ensures { result ≡ any_of (eqb x) (take n xs.now) }
-{
-    xs[..n].contains(&x)
 }
