@@ -1,6 +1,6 @@
 #![tactic(auto)]
 // The planner's calls on a plan's bytes (document 01, Calls), for Rattle programs.
-ghost use Rattle.std.specs.Prelude.{◌≡◌, ◌<◌, ◌≤◌, min, length};
+ghost use Rattle.std.specs.Prelude.{◌≡◌, ◌<◌, min, length};
 ghost use Rattle.rules.specs.Calls.{filling, runs};
 ghost use Rattle.plan.specs.View.{plan_view};
 ghost use Rattle.calls.specs.Called.{OutcomeCalled, SliceFilled, ReportCalled, ColumnsFilled, StartsCalled, OutputCalled};

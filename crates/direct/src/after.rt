@@ -1,5 +1,5 @@
 // D: the starts at which each activity in `after` is placed and has ended.
-ghost use Rattle.std.specs.Prelude.{◌≡◌, ◌≤◌, eqb, leb, length, map, filter, min};
+ghost use Rattle.std.specs.Prelude.{◌≡◌, eqb, leb, length, map, filter, min};
 ghost use Rattle.std.specs.List.{reduce};
 ghost use Rattle.activity.specs.View.{number_of};
 ghost use Rattle.sets.specs.Table.{Marked, Markable};

@@ -1,5 +1,5 @@
 // V: the volumes of the placed and the candidate, at every start or at none.
-ghost use Rattle.std.specs.Prelude.{◌≡◌, ◌+◌, ◌<◌, leb};
+ghost use Rattle.std.specs.Prelude.{◌+◌, ◌<◌, leb};
 ghost use Rattle.sets.specs.Table.{Marked, Markable};
 ghost use Rattle.placed.specs.Tables.{volume_at, volumes_in};
 

@@ -1,5 +1,5 @@
 // H: the starts that leave time for the warm-up.
-ghost use Rattle.std.specs.Prelude.{◌≡◌, leb};
+ghost use Rattle.std.specs.Prelude.{leb};
 ghost use Rattle.rules.specs.Warmup.{warmup_at};
 ghost use Rattle.sets.specs.Table.{Marked, Markable};
 

@@ -1,7 +1,7 @@
 // What came of an activity, in words.
 ghost use Rattle.std.specs.Prelude.{◌≡◌, true, cond, [], ◌≤◌, ◌<◌, length};
 ghost use Rattle.rules.specs.Plan.{Activity};
-ghost use Rattle.rules.specs.Conditions.{condition_count, has, letters_of};
+ghost use Rattle.rules.specs.Conditions.{condition_count, has};
 ghost use Rattle.rules.specs.declared.Outcome.TheVariants.{Placed, Refused};
 ghost use Rattle.explanation.specs.Places.{letter_line, letter_text, letter_texts, outcome_text};
 ghost use Rattle.explanation.specs.Tabled.{Small, runs_in};

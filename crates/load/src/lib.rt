@@ -4,7 +4,7 @@ mod clear;
 mod loads;
 mod sharing;
 
-ghost use Rattle.std.specs.Prelude.{◌≡◌, ℕ, ◌+◌, ◌<◌, ◌≤◌};
+ghost use Rattle.std.specs.Prelude.{ℕ, ◌+◌, ◌<◌, ◌≤◌};
 ghost use Rattle.sets.specs.Table.{Marked, Markable};
 ghost use Rattle.placed.specs.Tables.{engines_at, peak_at};
 ghost use Rattle.placed.specs.Bounds.{TicksBounded, AmountsBounded};

@@ -1,5 +1,5 @@
 // The rows of what is placed.
-ghost use Rattle.std.specs.Prelude.{◌≡◌, ℕ, ◌+◌, ◌<◌, ◌≤◌, length, get_or, take};
+ghost use Rattle.std.specs.Prelude.{◌≡◌, ◌+◌, ◌<◌, ◌≤◌, length, take};
 ghost use Rattle.rules.specs.Plan.{at};
 ghost use Rattle.rules.specs.WellFormed.{SettingsFormed};
 ghost use Rattle.activity.specs.View.{header_view, activity_view};

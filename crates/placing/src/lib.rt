@@ -4,7 +4,6 @@ mod next;
 
 ghost use Rattle.std.specs.Prelude.{◌≡◌, ◌≤◌, ◌<◌, length};
 ghost use Rattle.rules.specs.Outcomes.{starts, activity_at, outcome};
-ghost use Rattle.activity.specs.View.{header_view};
 ghost use Rattle.plan.specs.View.{plan_view};
 ghost use Rattle.placing.specs.Places.{PlacedTo, TableAt};
 

@@ -1,5 +1,5 @@
 // A plan file, read: its first line, its other lines, and what is judged once all are read.
-ghost use Rattle.std.specs.Prelude.{◌≡◌, ◌+◌, ◌<◌, ◌≤◌, IfOk, length, drop};
+ghost use Rattle.std.specs.Prelude.{◌≡◌, ◌+◌, ◌<◌, ◌≤◌, IfOk, length};
 ghost use Rattle.rules.specs.Reading.{accepted, after_lines, reading};
 ghost use Rattle.text.specs.Text.{index_of};
 ghost use Rattle.activity.specs.View.{header_view};

@@ -1,6 +1,6 @@
 #![tactic(auto)]
 // The numbers and types that the planner's crates share, and the warm-up table.
-ghost use Rattle.std.specs.Prelude.{◌≡◌, ◌≤◌, eqb, length, take};
+ghost use Rattle.std.specs.Prelude.{◌≡◌};
 ghost use Rattle.rules.specs.Refusals.{number_of};
 ghost use Rattle.rules.specs.Warmup.{warmup_at};
 

@@ -1,5 +1,5 @@
 // A table of sets, one for each start of a candidate, to which the tests of the conditions add their bits.
-ghost use Rattle.std.specs.Prelude.{◌≡◌, Bool, cond, ℕ, ◌+◌, ◌<◌, ◌≤◌, length, get_or, set};
+ghost use Rattle.std.specs.Prelude.{◌≡◌, Bool, cond, ℕ, ◌+◌, ◌<◌, length, get_or, set};
 ghost use Rattle.sets.specs.Table.{Marked, Markable};
 
 use rules::TICKS;

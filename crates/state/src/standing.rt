@@ -1,5 +1,5 @@
 // The value of a variable that stands at a tick by the sets of the placed.
-ghost use Rattle.std.specs.Prelude.{◌≡◌, ◌<◌, ◌≤◌};
+ghost use Rattle.std.specs.Prelude.{◌≡◌, ◌<◌};
 ghost use Rattle.state.specs.Standing.{later_value, standing_by};
 
 use placed::Placed;

@@ -1,5 +1,5 @@
 // A text written piece by piece, of which the part from a given byte on is kept.
-ghost use Rattle.std.specs.Prelude.{◌≡◌, ℕ, ◌-◌, ◌≤◌, List, [], ◌∷◌, ◌++◌, length, take};
+ghost use Rattle.std.specs.Prelude.{◌≡◌, ◌-◌, ◌≤◌, [], length, take};
 ghost use Rattle.rules.specs.Number.{decimal};
 ghost use Rattle.wording.specs.Writing.{Written, with_more};
 
