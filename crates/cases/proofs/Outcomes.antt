@@ -1,6 +1,7 @@
 -- The calls' full answers, placed and refused (01, Calls).
 -- Assumes nothing.
 use Prim.Native.Nat.{ℕ}
+use lib.Dec.{eqb}
 use mathlib.Core.Path.{◌≡◌, refl}
 use mathlib.Core.Bool.{Bool, true}
 use mathlib.Core.List.{List, [], ◌∷◌}
@@ -8,7 +9,8 @@ use Rattle.rules.specs.Open.{opened}
 use Rattle.rules.specs.Report.{output}
 use Rattle.rules.specs.Calls.{outcome_terms, count_terms, outcome_call, slice_after, report_call, starts_call}
 use Rattle.rules.specs.declared.Outcome.TheVariants.{Placed, Refused}
-use Rattle.rules.specs.declared.Fault.TheVariants.{OutOfRange}
+use Rattle.rules.specs.Refusals.{number_of, refusal_view}
+use Rattle.rules.specs.declared.Fault.TheVariants.{TooLong, NotFormed, Malformed, OutOfRange, TooMany, Repeated, Misplaced, NotRising, OutOfReach, NoRoom, NoPlace, NoSet}
 use Rattle.std.specs.Prelude.{Ok, Err}
 use Rattle.cases.proofs.Inputs.{tabbed}
 use Rattle.cases.proofs.Rows.{all, rows_opened, answers, equal, terms_are}
@@ -49,6 +51,21 @@ outcome_examples =
     ∷ equal (report_call (tabbed "plan 1 0 1 0 0 0 0 0 0 0 0\n") 12).written (tabbed "end 0 0 0 0\n")
     ∷ terms_are (report_call (tabbed "plan 1 0 1 0 0 0 0 0 0 0 0\n") 11).terms 10 0 []
     ∷ equal (report_call (tabbed "plan 1 0 1 0 0 0 0 0 0 0 0\n") 11).written []
+    -- the faults by their numbers, and a refusal by its number and line
+    ∷ eqb (number_of TooLong) 1
+    ∷ eqb (number_of NotFormed) 2
+    ∷ eqb (number_of Malformed) 3
+    ∷ eqb (number_of OutOfRange) 4
+    ∷ eqb (number_of TooMany) 5
+    ∷ eqb (number_of Repeated) 6
+    ∷ eqb (number_of Misplaced) 7
+    ∷ eqb (number_of NotRising) 8
+    ∷ eqb (number_of OutOfReach) 9
+    ∷ eqb (number_of NoRoom) 10
+    ∷ eqb (number_of NoPlace) 11
+    ∷ eqb (number_of NoSet) 12
+    ∷ eqb (refusal_view (record { fault = TooMany; line = 66 })).number 5
+    ∷ eqb (refusal_view (record { fault = TooMany; line = 66 })).line 66
     -- an answer in the document's terms
     ∷ terms_are (outcome_terms (Ok (Placed 5))) 0 0 (1 ∷ 5 ∷ [])
     ∷ terms_are (outcome_terms (Ok (Refused 3))) 0 0 (0 ∷ 3 ∷ [])
@@ -61,5 +78,5 @@ outcome_examples =
     ∷ []
 
 outcomes : all outcome_examples ≡ true
-unfolding opened rows_opened nine outcome_examples
+unfolding opened rows_opened nine outcome_examples refusal_view
 outcomes = refl
