@@ -11,16 +11,15 @@ pub use next::{Placing, place_next};
 use plan::Plan;
 use rules::{Outcome, TICKS};
 
-// Answers the first k places in order.
-pub fn place_to(plan: &Plan, k: usize, table: &mut [u16; TICKS]) -> Placing
-    requires { k ≤ length (plan_view plan.now).activities }
-    ensures { PlacedTo plan.now k result }
+// Answers the first k places in order, where none is gone through yet. What comes of them is lent, since its copies would
+// stand on the stack beside those of the conditions.
+pub fn place_to(plan: &Plan, k: usize, placing: &mut Placing, table: &mut [u16; TICKS])
+    requires { (k ≤ length (plan_view plan.now).activities) × (placing.old.placed.count ≡ 0) }
+    ensures { PlacedTo plan.now k placing.new }
 {
-    let mut placing = Placing::new();
     for place in 0..k {
-        place_next(plan, place, &mut placing, table);
+        place_next(plan, place, placing, table);
     }
-    placing
 }
 
 // The answer at place k.
@@ -29,7 +28,8 @@ pub fn outcome_at(plan: &Plan, k: usize) -> Outcome
     ensures { result ≡ outcome (plan_view plan.now) k }
 {
     let mut table = [0; TICKS];
-    let placing = place_to(plan, k + 1, &mut table);
+    let mut placing = Placing::new();
+    place_to(plan, k + 1, &mut placing, &mut table);
     placing.answers[k]
 }
 
@@ -48,7 +48,8 @@ pub fn fill_at(plan: &Plan, k: usize, table: &mut [u16; TICKS]) -> u32
     ensures value { (result ≡ starts (plan_view plan.now).header (activity_at (plan_view plan.now) k)) × (result ≤ 4096) }
     ensures table_at { TableAt plan.now k table.new }
 {
-    let mut placing = place_to(plan, k, table);
+    let mut placing = Placing::new();
+    place_to(plan, k, &mut placing, table);
     place_next(plan, k, &mut placing, table);
     start_count_at(plan, k)
 }

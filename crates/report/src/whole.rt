@@ -28,7 +28,9 @@ fn put_lines(plan: &Plan, placing: &Placing, out: &mut Report)
     }
 }
 
-// Writes the end line of a plan of `count` activities, of which these are placed.
+// Writes the end line of a plan of `count` activities, of which these are placed. Its draws are to leave the stack before
+// the next call.
+#[inline(never)]
 fn put_finished(header: Header, count: usize, placed: &Placed, out: &mut Report)
     requires { Finished header placed.now.rows placed.now.count × (placed.now.count ≤ count) × (length out.old + end_most ≤ report_most) }
     ensures { (before : Schedule) → RowsSay header placed.now.rows placed.now.count before → out.new ≡ out.old ++ end_line (header_view header) count before }
@@ -44,7 +46,8 @@ pub fn report_of(plan: &Plan) -> Report
     ensures { result ≡ report (plan_view plan.now) }
 {
     let mut table = [0; TICKS];
-    let placing = place_to(plan, plan.count(), &mut table);
+    let mut placing = Placing::new();
+    place_to(plan, plan.count(), &mut placing, &mut table);
     let mut out = Report::new();
     put_lines(plan, &placing, &mut out);
     put_finished(plan.header, plan.count(), &placing.placed, &mut out);

@@ -13,4 +13,4 @@ pub bounds-placing-k : goal.bounds-placing-k
 bounds-placing-k c = omega (arith, (placeable c.args.plan.now).few)
 
 pub returns : goal.returns
-returns c = c.place_to-placing.ensures.answered _ (omega arith)
+returns c = c.place_to.ensures.answered _ (omega arith)

@@ -3,4 +3,4 @@ use Rattle.placing.proofs.ByPlace.{placed_none}
 use Rattle.placing.proofs.place_to.Goals as goal
 
 pub loop-place-init : goal.loop-place-init
-loop-place-init c = placed_none _ _ c.new-placing.ensures
+loop-place-init c = placed_none _ _ c.requires.1

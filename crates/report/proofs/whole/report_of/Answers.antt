@@ -11,7 +11,7 @@ use Rattle.report.proofs.whole.report_of.Goals as goal
 
 pub put_finished-requires : goal.put_finished-requires
 put_finished-requires c =
-    let S = c.place_to-placing.ensures in
+    let S = c.place_to.ensures in
     let few = (placeable c.args.plan.now).few in
     let R = rows_say S in (
       record {
@@ -26,4 +26,4 @@ put_finished-requires c =
 
 pub returns : goal.returns
 unfolding report finished plan_view
-returns c = c.put_finished.ensures _ (rows_say c.place_to-placing.ensures) ∙ rw (c.put_lines.ensures.text, c.count-2.ensures.value, c.count.ensures.value) refl
+returns c = c.put_finished.ensures _ (rows_say c.place_to.ensures) ∙ rw (c.put_lines.ensures.text, c.count-2.ensures.value, c.count.ensures.value) refl
