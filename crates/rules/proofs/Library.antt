@@ -15,13 +15,6 @@ unfolding every
 every_is p [] = refl
 every_is p (x ∷ xs) = ap (λ b. p x && b) (every_is p xs)
 
-pub any_same : {A : Type 0} (p q : A → Bool) → ((x : A) → p x ≡ q x) → (xs : List A) → list_any p xs ≡ list_any q xs
-any_same p q e [] = refl
-any_same p q e (x ∷ xs) = ap₂ ◌||◌ (e x) (any_same p q e xs)
-
 pub every_same : {A : Type 0} (p q : A → Bool) → ((x : A) → p x ≡ q x) → (xs : List A) → list_all p xs ≡ list_all q xs
 every_same p q e [] = refl
 every_same p q e (x ∷ xs) = ap₂ ◌&&◌ (e x) (every_same p q e xs)
-
-pub eqb_swap : (x y : ℕ) → eqb x y ≡ eqb y x
-eqb_swap x y = grind (arith, eqb-true, eq-eqb)

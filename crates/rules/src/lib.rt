@@ -23,7 +23,7 @@ pub enum Outcome {
 }
 
 // Why a file or a call is refused (document 01, When the planner says no).
-#[derive(Clone, Copy)]
+#[derive(Clone, Copy, PartialEq, Eq)]
 pub enum Fault {
     TooLong,
     NotFormed,
@@ -61,11 +61,21 @@ impl From<Fault> for u32 {
     }
 }
 
-// A refusal: its fault, and the line that has it, 0 where it is no line's.
+// A refusal: its fault, and the line that has it. The line is 0 where it is no line's, and no Option: document 01
+// gives such a refusal line 0, which is printed and packed as that number.
 #[derive(Clone, Copy)]
 pub struct Refusal {
     pub fault: Fault,
     pub line: u32,
+}
+
+// The refusal of a call, which is no line's.
+impl From<Fault> for Refusal {
+    ghost from_gives = { λ fault refused. refused ≡ record { fault = fault; line = 0 } };
+
+    fn from(fault: Fault) -> Refusal {
+        Refusal { fault, line: 0 }
+    }
 }
 
 // A run of starts: its first and its last. It is laid out as in C, for `station`.
@@ -91,7 +101,8 @@ const WARMUP: [u32; 288] = [
     12, 13, 13, 13, 13, 13, 13, 13, 13, 13, 13, 13, 13,
 ];
 
-// w(s): the ticks of warm-up before a start, at the minute of day of tick 0; 0 where warm is 0.
+// w(s): the ticks of warm-up before a start, at the minute of day of tick 0; 0 where warm is 0. `warm` is document
+// 01's field, a number that is 0 or 1.
 pub fn warmup_at(minute: u32, start: u32, warm: u32) -> u32
     ensures { result ≡ warmup_at minute start warm }
 {
