@@ -11,13 +11,6 @@ use report::whole::{no_line_of, report_of};
 use rules::{ALL_CONDITIONS, Fault, Outcome, Refusal, TICKS};
 use schedule::runs::{count_runs, write_runs};
 
-// The refusal of a call, which is no line's.
-fn refused(fault: Fault) -> Refusal
-    ensures { result ≡ record { fault = fault; line = 0 } }
-{
-    Refusal { fault, line: 0 }
-}
-
 // The outcome of the activity at a place: placed with its start, or refused with its letters.
 pub fn outcome(bytes: &[u8], place: usize) -> Result<Outcome, Refusal>
     ensures { OutcomeCalled bytes.now place result }
@@ -26,7 +19,7 @@ pub fn outcome(bytes: &[u8], place: usize) -> Result<Outcome, Refusal>
     if place < plan.count() {
         Ok(placing::outcome_at(&plan, place))
     } else {
-        Err(refused(Fault::NoPlace))
+        Err(Fault::NoPlace.into())
     }
 }
 
@@ -36,7 +29,7 @@ fn hand_over(text: &[u8], out: &mut [u8]) -> Result<usize, Refusal>
 {
     let length = text.len();
     if out.len() < length {
-        return Err(refused(Fault::NoRoom));
+        return Err(Fault::NoRoom.into());
     }
     out[..length].copy_from_slice(text);
     Ok(length)
@@ -66,14 +59,15 @@ fn runs_at(
     let sets = &table[..count as usize];
     let runs = count_runs(sets, set);
     if firsts.len().min(lasts.len()) < runs {
-        return Err(refused(Fault::NoRoom));
+        return Err(Fault::NoRoom.into());
     }
     write_runs(sets, set, firsts, lasts);
     Ok(runs)
 }
 
 // The runs of starts of the activity at a place that meet a set of conditions: the first start of each is written to
-// the front of `firsts`, the last to the front of `lasts`, and their count answered.
+// the front of `firsts`, the last to the front of `lasts`, and their count answered. Document 01 wants two slices of
+// numbers first, and over them a slice of structs (crate `station`).
 pub fn starts(
     bytes: &[u8],
     place: usize,
@@ -85,10 +79,10 @@ pub fn starts(
 {
     let plan = plan::read(bytes)?;
     if plan.count() <= place {
-        return Err(refused(Fault::NoPlace));
+        return Err(Fault::NoPlace.into());
     }
     if u32::from(ALL_CONDITIONS) < set {
-        return Err(refused(Fault::NoSet));
+        return Err(Fault::NoSet.into());
     }
     runs_at(&plan, place, set as u16, firsts, lasts)
 }

@@ -1,13 +1,14 @@
 -- The text of the places, one place after the other.
 -- Assumes nothing.
 use Prim.Native.Nat.{ℕ, zero, suc, ◌+◌, ◌-◌, ◌^◌, ◌≤◌}
-use mathlib.Core.Path.{◌≡◌, refl, sym}
+use mathlib.Core.Path.{◌≡◌, refl, sym, ◌∙◌}
 use mathlib.Core.List.{List, ◌++◌}
 use native.Mathlib.Numerals.{add-one}
 use lib.ListN.{length, take}
 use Rattle.rules.specs.Plan.{Activity, Plan}
 use Rattle.rules.specs.Conditions.{condition_count, all_conditions}
 use Rattle.rules.specs.Ordered.{ordered}
+use Rattle.rules.specs.Runs.{runs_from}
 use Rattle.rules.specs.Outcomes.{starts, activity_at, placed, outcome}
 use Rattle.rules.proofs.Answers.{replied}
 use Rattle.rules.specs.Calls.{runs}
@@ -19,6 +20,8 @@ use Rattle.plan.specs.View.{plan_view}
 use Rattle.plan.specs.declared.Plan.{Plan as PlanStruct}
 use Rattle.placing.specs.Places.{TableAt}
 use Rattle.placing.proofs.ByPlace.{runs_are}
+use Rattle.schedule.specs.Search.{meets_in}
+use Rattle.schedule.proofs.Tabled.{first_runs}
 use Rattle.plan.proofs.Accepted.{accepted_as}
 use Rattle.rules.specs.Refusals.{Refusal}
 use Rattle.rules.specs.Reading.{refused, reading}
@@ -44,8 +47,13 @@ module _ (r q : ℕ → List Interval) (h : (m : ℕ) → r m ≡ q m) where
   outcome_alike a (Refused m) = rw (letters_alike m condition_count)
 
 -- the outcome's text by the table of the place
-pub outcome_is : (p : PlanStruct) (k : ℕ) (table : List ℕ) → TableAt p k table → (count : ℕ) → count ≡ starts (plan_view p).header (activity_at (plan_view p) k) → count ≤ length table → (a : Activity) (o : Outcome) → outcome_text (runs_in (take count table)) a o ≡ outcome_text (runs (plan_view p) k) a o
-outcome_is p k table T count e long a o = outcome_alike (runs_in (take count table)) (runs (plan_view p) k) (λ m. runs_are p k table T count m e long) a o
+pub outcome_is : (p : PlanStruct) (k : ℕ) (table : List ℕ) → TableAt p k table → (count : ℕ) → count ≡ starts (plan_view p).header (activity_at (plan_view p) k) → (a : Activity) (o : Outcome) → outcome_text (λ m. runs_from (meets_in table m) 0 count) a o ≡ outcome_text (runs (plan_view p) k) a o
+outcome_is p k table T count e a o = outcome_alike (λ m. runs_from (meets_in table m) 0 count) (runs (plan_view p) k) (λ m. runs_are p k table T m count e) a o
+
+-- and by its first entries, as a list of their own
+pub first_outcome_is : (p : PlanStruct) (k : ℕ) (table : List ℕ) → TableAt p k table → (count : ℕ) → count ≡ starts (plan_view p).header (activity_at (plan_view p) k) → count ≤ length table → (a : Activity) (o : Outcome) → outcome_text (runs_in (take count table)) a o ≡ outcome_text (runs (plan_view p) k) a o
+first_outcome_is p k table T count e long a o =
+    outcome_alike (runs_in (take count table)) (λ m. runs_from (meets_in table m) 0 count) (first_runs count table long) a o ∙ outcome_is p k table T count e a o
 
 -- the letters of a refusal are among the conditions
 pub small_is : (p : Plan) (k : ℕ) (o : Outcome) → o ≡ outcome p k → Small o

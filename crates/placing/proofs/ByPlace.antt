@@ -1,7 +1,7 @@
 -- What is placed grows place by place as document 01 says, and stays one that the conditions can be tested beside.
 -- Assumes nothing.
 use Prim.Native.Nat.{ℕ, ◌+◌, ◌<◌, ◌≤◌}
-use mathlib.Core.Path.{◌≡◌, refl, sym, ◌∙◌, subst}
+use mathlib.Core.Path.{◌≡◌, refl, sym, ◌∙◌, ap, subst}
 use mathlib.Core.List.{List, [], ◌∷◌, Memᴰ}
 use mathlib.Core.List.Memᴰ
 use native.Mathlib.Numerals.{add-one}
@@ -35,7 +35,7 @@ use Rattle.placed.proofs.Rows.{rows_none}
 use Rattle.placed.proofs.Filling.{held_beside}
 use Rattle.conditions.specs.Ready.{Beside}
 use Rattle.schedule.specs.Search.{meets_in}
-use Rattle.schedule.proofs.Tabled.{table_runs}
+use Rattle.schedule.proofs.Tabled.{table_runs, first_runs}
 use Rattle.placing.specs.declared.next.Placing.{Placing}
 use Rattle.placing.specs.Places.{PlacedTo, TableAt}
 use Rattle.placing.proofs.Accepted.{placeable}
@@ -126,6 +126,10 @@ module _ (p : PlanStruct) where
     table_is table T = rw (← view) T
 
 -- the runs in the table of a place are the runs at that place
-pub runs_are : (q : PlanStruct) (k : ℕ) (table : List ℕ) → TableAt q k table → (n m : ℕ) → n ≡ starts (plan_view q).header (activity_at (plan_view q) k) → n ≤ length table → runs_from (meets_in (take n table) m) 0 (length (take n table)) ≡ runs (plan_view q) k m
+pub runs_are : (q : PlanStruct) (k : ℕ) (table : List ℕ) → TableAt q k table → (m n : ℕ) → n ≡ starts (plan_view q).header (activity_at (plan_view q) k) → runs_from (meets_in table m) 0 n ≡ runs (plan_view q) k m
 unfolding runs
-runs_are q k table T n m e l = rw e (table_runs _ _ table T (rw e at l) m)
+runs_are q k table T m n e = ap (runs_from (meets_in table m) 0) e ∙ table_runs _ _ table T m
+
+-- and of its first n entries, as a list of their own
+pub first_runs_are : (q : PlanStruct) (k : ℕ) (table : List ℕ) → TableAt q k table → (m n : ℕ) → n ≡ starts (plan_view q).header (activity_at (plan_view q) k) → n ≤ length table → runs_from (meets_in (take n table) m) 0 (length (take n table)) ≡ runs (plan_view q) k m
+first_runs_are q k table T m n e long = first_runs n table long m ∙ runs_are q k table T m n e

@@ -17,6 +17,7 @@ pub fn place_to(plan: &Plan, k: usize, placing: &mut Placing, table: &mut [u16; 
     requires { (k ≤ length (plan_view plan.now).activities) × (placing.old.placed.count ≡ 0) }
     ensures { PlacedTo plan.now k placing.new }
 {
+    // By number: `place_next` takes the number of its place.
     for place in 0..k {
         place_next(plan, place, placing, table);
     }

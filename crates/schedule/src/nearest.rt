@@ -1,5 +1,5 @@
 // The valid start nearest to the preferred tick.
-ghost use Rattle.std.specs.Prelude.{◌≡◌, ◌≤◌, eqb, length};
+ghost use Rattle.std.specs.Prelude.{◌≡◌, ◌<◌, ◌^◌, eqb, length};
 ghost use Rattle.rules.specs.Conditions.{all_conditions};
 ghost use Rattle.rules.specs.Answer.{nearer, nearest};
 ghost use Rattle.schedule.specs.Found.{option_of, is_valid, to_preferred};
@@ -23,7 +23,7 @@ fn nearer_of(set: u16, s: u32, preferred: u32, best: Option<u32>) -> Option<u32>
 // Of the starts with these sets, the valid one nearest to the preferred tick.
 #[tactic(auto, unfolding(rules::specs::Answer::nearest, crate::specs::Found::is_valid))]
 pub fn nearest_of(sets: &[u16], preferred: u32) -> Option<u32>
-    requires { length sets.now ≤ 4096 }
+    requires { length sets.now < 2 ^ 32 }
     ensures { option_of result ≡ nearest (is_valid sets.now) (to_preferred preferred) (length sets.now) }
 {
     let mut best = None;

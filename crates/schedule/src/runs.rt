@@ -94,7 +94,8 @@ pub fn count_runs(sets: &[u16], set: u16) -> usize
     Runs::new(sets, set).count()
 }
 
-// Writes the runs of starts that meet the set: the first start of each into one slice, the last into the other.
+// Writes the runs of starts that meet the set: the first start of each into one slice, the last into the other. Two
+// slices of numbers are document 01's form of the call `starts`.
 pub fn write_runs(sets: &[u16], set: u16, firsts: &mut [u32], lasts: &mut [u32])
     requires few { length sets.now < 2 ^ 32 }
     requires firsts_room { length (runs_from (meets_in sets.now set) 0 (length sets.now)) ≤ length firsts.old }
@@ -102,6 +103,7 @@ pub fn write_runs(sets: &[u16], set: u16, firsts: &mut [u32], lasts: &mut [u32])
     ensures firsts { firsts.new ≡ slice_after (map (λ r. r.first) (runs_from (meets_in sets.now set) 0 (length sets.now))) firsts.old }
     ensures lasts { lasts.new ≡ slice_after (map (λ r. r.last) (runs_from (meets_in sets.now set) 0 (length sets.now))) lasts.old }
 {
+    // By index: the borrow checker does not cover `firsts.iter_mut().zip(lasts.iter_mut())`.
     for (i, run) in Runs::new(sets, set).enumerate() {
         firsts[i] = run.first;
         lasts[i] = run.last;

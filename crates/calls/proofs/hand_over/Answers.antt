@@ -5,7 +5,7 @@ use Rattle.calls.proofs.Running.{too_long, slice_kept, handed}
 use Rattle.calls.proofs.hand_over.Goals as goal
 
 pub returns-then-out-length : goal.returns-then-out-length
-returns-then-out-length c = rw c.refused.ensures (slice_kept _ _ (too_long _ _ c.if-out-length.true) c.args.out.now)
+returns-then-out-length c = rw c.into.ensures (slice_kept _ _ (too_long _ _ c.if-out-length.true) c.args.out.now)
 
 pub returns : goal.returns
 unfolding slice_after

@@ -16,7 +16,7 @@ returns-in_err-plan c =
 pub returns-else-place-count : goal.returns-else-place-count
 returns-else-place-count c =
     let p = c.in_ok-plan.plan in
-    rw (← c.in_ok-plan.ensures.bytes, c.refused.ensures) (outcome_err p.bytes.now _ c.args.place (outcome_beyond p c.args.place (omega (arith, c.count.ensures.value))))
+    rw (← c.in_ok-plan.ensures.bytes, c.into.ensures) (outcome_err p.bytes.now _ c.args.place (outcome_beyond p c.args.place (omega (arith, c.count.ensures.value))))
 
 pub returns-then-place-count : goal.returns-then-place-count
 returns-then-place-count c =

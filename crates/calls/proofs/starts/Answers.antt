@@ -17,12 +17,12 @@ returns-in_err-plan c =
 pub returns-then-count-place : goal.returns-then-count-place
 returns-then-count-place c =
     let p = c.in_ok-plan.plan in
-    rw (← c.in_ok-plan.ensures.bytes, c.refused.ensures) (columns_kept _ _ (starts_beyond p _ _ _ (omega (arith, c.count.ensures.value))) c.args.firsts.now c.args.lasts.now)
+    rw (← c.in_ok-plan.ensures.bytes, c.into.ensures) (columns_kept _ _ (starts_beyond p _ _ _ (omega (arith, c.count.ensures.value))) c.args.firsts.now c.args.lasts.now)
 
 pub returns-then-from-set : goal.returns-then-from-set
 returns-then-from-set c =
     let p = c.in_ok-plan.plan in
-    rw (← c.in_ok-plan.ensures.bytes, c.refused-then-from-set.ensures) (columns_kept _ _ (starts_no_set p _ _ _ (omega (arith, c.count.ensures.value)) (omega arith)) c.args.firsts.now c.args.lasts.now)
+    rw (← c.in_ok-plan.ensures.bytes, c.into-then-from-set.ensures) (columns_kept _ _ (starts_no_set p _ _ _ (omega (arith, c.count.ensures.value)) (omega arith)) c.args.firsts.now c.args.lasts.now)
 
 pub returns : goal.returns
 returns c =

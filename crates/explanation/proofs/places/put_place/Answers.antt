@@ -10,7 +10,7 @@ use Rattle.plan.specs.View.{plan_view}
 use Rattle.explanation.specs.Places.{outcome_text, place_text}
 use Rattle.wording.specs.Writing.{with_more}
 use Rattle.wording.proofs.Pieces.{pieces}
-use Rattle.explanation.proofs.PlaceTexts.{outcome_is, small_is}
+use Rattle.explanation.proofs.PlaceTexts.{first_outcome_is, small_is}
 use Rattle.explanation.proofs.places.put_place.Goals as goal
 
 pub put_outcome-requires : goal.put_outcome-requires
@@ -27,7 +27,7 @@ returns c =
     let id : c.activity-activity.result.id ≡ a.id = ap (λ a. a.id) c.activity-activity.ensures in
     let duration : a.duration ≡ c.activity-activity.result.duration = ap (λ a. a.duration) (sym c.activity-activity.ensures) in
     c.put_outcome.ensures a duration
-    ∙ ap (with_more c.push-3.new.self) (outcome_is c.args.plan.now k c.args.table.now c.requires.1 count.result count.ensures.0 (omega (arith, count.ensures.1, c.told-table)) a c.args.answer ∙ ap (outcome_text (runs p k) a) c.requires.2)
+    ∙ ap (with_more c.push-3.new.self) (first_outcome_is c.args.plan.now k c.args.table.now c.requires.1 count.result count.ensures.0 (omega (arith, count.ensures.1, c.told-table)) a c.args.answer ∙ ap (outcome_text (runs p k) a) c.requires.2)
     ∙ rw (c.push-3.ensures, c.push_number-2.ensures, c.push-2.ensures, c.push_number.ensures, c.push.ensures, c.from.ensures, id) (
     pieces out (bytes "place " ∷ decimal k ∷ bytes ", activity " ∷ decimal a.id ∷ bytes ": " ∷ outcome_text (runs p k) a (outcome p k) ∷ [])
     )

@@ -4,14 +4,15 @@ use Rattle.std.proofs.lemmas.List.{length-take-le}
 use Rattle.rules.specs.Outcomes.{distance, reply}
 use Rattle.activity.specs.View.{activity_view}
 use Rattle.schedule.specs.Found.{to_preferred}
-use Rattle.schedule.proofs.Tabled.{sets_small, table_answer}
+use Rattle.schedule.proofs.Tabled.{entries_small, table_answer, first_small, first_answer}
 use Rattle.placing.proofs.next.reply_to.Goals as goal
 
 pub reply_by-requires : goal.reply_by-requires
 reply_by-requires c =
     let count = c.start_count-count.ensures in
     let long : c.start_count-count.result ≤ length c.fill.new.table = omega (arith, c.fill.array_long) in
-    (omega (arith, length-take-le c.start_count-count.result c.fill.new.table), sets_small _ _ _ (rw (← count.0) at (c.fill.ensures c.requires.0 c.requires.1)) long)
+    let small = entries_small _ _ _ (c.fill.ensures c.requires.0 c.requires.1) in
+    (omega (arith, length-take-le c.start_count-count.result c.fill.new.table), first_small _ _ long _ small)
 
 pub returns-clause-value : goal.returns-clause-value
 unfolding reply distance to_preferred activity_view
@@ -19,4 +20,5 @@ returns-clause-value c =
     λ before B.
     let count = c.start_count-count.ensures in
     let long : c.start_count-count.result ≤ length c.fill.new.table = omega (arith, c.fill.array_long) in
-    c.reply_by.ensures ∙ table_answer _ _ _ (rw (← count.0) at (c.fill.ensures before B)) long (to_preferred c.args.candidate.now.preferred) ∙ rw count.0
+    let by = to_preferred c.args.candidate.now.preferred in
+    c.reply_by.ensures ∙ first_answer _ _ long by ∙ table_answer _ _ _ (rw (← count.0) at (c.fill.ensures before B)) by ∙ rw count.0
