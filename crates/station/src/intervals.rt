@@ -1,4 +1,5 @@
-// The starts call over a slice of interval structs: its runs in two columns of numbers, and these put together.
+// The starts call over a slice of interval structs: its runs in two columns of numbers, and these put together. Document
+// 01 wants two slices of numbers first, and over them the slice of structs.
 ghost use Rattle.std.specs.Prelude.{◌≡◌, ◌≤◌, length};
 ghost use Rattle.rules.specs.Calls.{slice_after, starts_call};
 ghost use Rattle.station.specs.Columns.{ColumnsHeld, pairs};
@@ -29,6 +30,7 @@ pub fn put_runs(out: &mut [Interval], firsts: &[u32], lasts: &[u32])
     requires { (length firsts.now ≤ length out.old) × (length firsts.now ≡ length lasts.now) }
     ensures { out.new ≡ slice_after (pairs firsts.now lasts.now) out.old }
 {
+    // By index: of what is written through `out.iter_mut().zip(..)` nothing is known behind the loop.
     for (i, run) in out[..firsts.len()].iter_mut().enumerate() {
         *run = Interval {
             first: firsts[i],

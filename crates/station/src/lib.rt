@@ -40,9 +40,8 @@ pub fn planner_starts(plan: &[u8], place: usize, set: u32, out: &mut [Interval])
     let mut firsts = [0; RUNS];
     let mut lasts = [0; RUNS];
     let answer = columns(plan, place, set, out.len(), &mut firsts, &mut lasts);
-    match answer {
-        Ok(count) => put_runs(out, &firsts[..count], &lasts[..count]),
-        Err(_) => {}
+    if let Ok(count) = answer {
+        put_runs(out, &firsts[..count], &lasts[..count]);
     }
     packing::pack_count(answer)
 }

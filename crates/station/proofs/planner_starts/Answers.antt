@@ -2,7 +2,7 @@
 use Rattle.std.proofs.Common.{◌∙◌, sym, arith, length-take-le}
 use Rattle.station.proofs.StartsExported.{runs_fit, runs_exported, refusal_exported}
 use Rattle.station.proofs.planner_starts.Goals as goal
-use Rattle.station.proofs.planner_starts.Goals.{in-Ok, in-Err}
+use Rattle.station.proofs.planner_starts.Goals.{in-Ok, in_default}
 
 pub slice_bounds-firsts-end : goal.slice_bounds-firsts-end
 slice_bounds-firsts-end c =
@@ -37,7 +37,7 @@ returns c =
       | in-Ok w ↦ rw (c.pack_count.ensures, w.answer-is, w.out-is, ← w.in-Ok.is) (
           runs_exported c.args.plan.now c.args.place c.args.set c.args.out.now c.columns-answer.result c.columns-answer.new.firsts c.columns-answer.new.lasts c.columns-answer.ensures w.in-Ok.count w.in-Ok.is _ w.put_runs.ensures
           )
-      | in-Err w ↦ rw (c.pack_count.ensures, w.answer-is, w.out-is) (
-          refusal_exported c.args.plan.now c.args.place c.args.set c.args.out.now c.columns-answer.result c.columns-answer.new.firsts c.columns-answer.new.lasts c.columns-answer.ensures _ w.in-Err.is
+      | in_default w ↦ rw (c.pack_count.ensures, w.answer-is, w.out-is) (
+          refusal_exported c.args.plan.now c.args.place c.args.set c.args.out.now c.columns-answer.result c.columns-answer.new.firsts c.columns-answer.new.lasts c.columns-answer.ensures _ w.in_default.is
           )
     ]
