@@ -1,5 +1,5 @@
 // The lines of the answers.
-use rules::{Outcome, Refusal};
+use rules::{Fault, Outcome, Refusal};
 use std::io;
 
 // Writes a line that says what a call has done wrong.
@@ -17,6 +17,11 @@ fn put_no(rt: &impl Print, refusal: Refusal) -> io::Result<()> {
     let number = u32::from(refusal.fault);
     let line = refusal.line;
     print!(rt; "\tno\t{number}\t{line}")
+}
+
+// Why a call was refused.
+pub fn fault_of(answer: Result<usize, Refusal>) -> Option<Fault> {
+    answer.err().map(|refusal| refusal.fault)
 }
 
 // Writes a count, or the refusal.

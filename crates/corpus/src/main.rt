@@ -22,7 +22,7 @@ struct Asked {
     sets: u64,
 }
 
-// The number in field k of a line; 0 where there is none.
+// The number in field k of a line; 0 where there is none, and so a line without numbers asks nothing.
 fn number_in(line: &[u8], k: usize) -> u64 {
     read_number(field_at(line, k)).unwrap_or(0)
 }

@@ -1,9 +1,9 @@
 // What the planner prints for a plan, and the calls of report.
 ghost use Rattle.std.specs.Prelude.{◌≤◌, length};
 
-use super::answer::{self, left_from};
+use super::answer::{self, fault_of, left_from};
 use report::lines::REPORT;
-use rules::{Fault, Refusal};
+use rules::Fault;
 use std::io;
 
 // What a lent byte holds before a call; no report has it.
@@ -34,13 +34,7 @@ fn check_short(rt: &impl Print, plan: &[u8], room: usize) -> io::Result<()>
 {
     let mut out = [MARK; REPORT];
     let answer = calls::report(plan, &mut out[..room]);
-    if !matches!(
-        answer,
-        Err(Refusal {
-            fault: Fault::NoRoom,
-            ..
-        })
-    ) {
+    if fault_of(answer) != Some(Fault::NoRoom) {
         answer::wrong(rt, "the refusal of a report")?;
     }
     check_left(rt, &out)
@@ -52,7 +46,7 @@ fn check_exact(rt: &impl Print, plan: &[u8], printed: &[u8]) -> io::Result<()>
 {
     let mut out = [MARK; REPORT];
     let answer = calls::report(plan, &mut out[..printed.len()]);
-    if answer.unwrap_or(0) != printed.len() {
+    if answer.ok() != Some(printed.len()) {
         answer::wrong(rt, "the length of a report that just fits")?;
     }
     check_written(rt, &out, printed)

@@ -1,7 +1,7 @@
 // The calls of starts.
 ghost use Rattle.std.specs.Prelude.{◌≤◌};
 
-use super::answer::{self, left_from};
+use super::answer::{self, fault_of, left_from};
 use rules::{ALL_CONDITIONS, Refusal};
 use std::io;
 
@@ -40,6 +40,7 @@ fn answer_starts(rt: &impl Print, plan: &[u8], place: usize, set: u32) -> io::Re
     let mut firsts = [MARK; ROOM];
     let mut lasts = [MARK; ROOM];
     let answer = calls::starts(plan, place, set, &mut firsts, &mut lasts);
+    // A refusal writes no run.
     let count = answer.unwrap_or(0);
     print!(rt; "starts\t{place}\t{set}")?;
     answer::put_count(rt, answer)?;
@@ -80,11 +81,6 @@ fn starts_into(
     Ok(answer)
 }
 
-// The number of a refusal; 0 where there is a count.
-fn number_of(answer: Result<usize, Refusal>) -> u32 {
-    answer.map_or_else(|refusal| u32::from(refusal.fault), |_| 0)
-}
-
 // Prints the answer of starts for every condition into no records, which is also the answer into room for only the firsts
 // or the lasts.
 pub fn answer_short(rt: &impl Print, plan: &[u8], place: usize) -> io::Result<()> {
@@ -92,10 +88,10 @@ pub fn answer_short(rt: &impl Print, plan: &[u8], place: usize) -> io::Result<()
     print!(rt; "short\t{place}")?;
     answer::put_count(rt, answer)?;
     println!(rt; "")?;
-    if number_of(starts_into(rt, plan, place, ROOM, 0)?) != number_of(answer) {
+    if fault_of(starts_into(rt, plan, place, ROOM, 0)?) != fault_of(answer) {
         answer::wrong(rt, "the refusal of starts with no room for the lasts")?;
     }
-    if number_of(starts_into(rt, plan, place, 0, ROOM)?) != number_of(answer) {
+    if fault_of(starts_into(rt, plan, place, 0, ROOM)?) != fault_of(answer) {
         answer::wrong(rt, "the refusal of starts with no room for the firsts")?;
     }
     Ok(())

@@ -22,6 +22,7 @@ pub fn read_input<R: Read>(reader: &mut R, buf: &mut [u8]) -> Result<usize, Read
     ensures whole { IfOk result (λ count. count < length buf.new → IsAtEnd (R.remaining reader.new)) }
 {
     let mut count = 0;
+    // By count: a reader is no iterator, and each read goes behind what was read before.
     while count < buf.len() {
         match reader.read(&mut buf[count..]) {
             Ok(0) => break,
