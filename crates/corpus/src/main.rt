@@ -7,7 +7,7 @@ mod answer;
 mod reports;
 mod starts;
 
-use input::{read_input, trouble};
+use input::run;
 use std::io;
 use std::process::ExitCode;
 use text::field::{field_at, find};
@@ -89,11 +89,11 @@ fn answer_records(rt: &impl Print, s: &[u8]) -> io::Result<()> {
 
 fn main(rt: HostRuntime) -> ExitCode {
     let mut space = [0u8; 262144];
-    let Ok(n) = read_input(&mut rt.stdin(), &mut space) else {
-        return trouble(&rt, "corpus: standard input cannot be read");
-    };
-    if answer_records(&rt, &space[..n]).is_err() {
-        return trouble(&rt, "corpus: standard output cannot be written");
-    }
-    ExitCode::SUCCESS
+    run(
+        &rt,
+        "corpus",
+        &mut rt.stdin(),
+        &mut space,
+        |s| answer_records(&rt, s),
+    )
 }

@@ -2,7 +2,7 @@
 // A plan on standard input, what the planner made of it in words on standard output (docs/EXPLAIN.md).
 ghost use Rattle.std.specs.Prelude.{◌≤◌};
 
-use input::{read_input, trouble};
+use input::run;
 use std::io;
 use std::process::ExitCode;
 use wording::writing::PART;
@@ -32,11 +32,11 @@ fn print_all(rt: &impl Print, bytes: &[u8]) -> io::Result<()> {
 fn main(rt: HostRuntime) -> ExitCode {
     // one byte more than a plan may have
     let mut bytes = [0u8; 60001];
-    let Ok(n) = read_input(&mut rt.stdin(), &mut bytes) else {
-        return trouble(&rt, "explain: standard input cannot be read");
-    };
-    if print_all(&rt, &bytes[..n]).is_err() {
-        return trouble(&rt, "explain: standard output cannot be written");
-    }
-    ExitCode::SUCCESS
+    run(
+        &rt,
+        "explain",
+        &mut rt.stdin(),
+        &mut bytes,
+        |plan| print_all(&rt, plan),
+    )
 }

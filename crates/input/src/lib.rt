@@ -2,9 +2,12 @@
 // The input, read whole, and how a program ends that has trouble.
 ghost use Rattle.std.specs.Prelude.{◌≡◌, ◌≤◌, ◌<◌, IfOk, length, take};
 ghost use Rattle.std.specs.Io.KnownBytes.{Consumes, IsAtEnd};
+ghost use Rattle.std.specs.Prelude.{ℕ, Ok};
+ghost use Rattle.std.specs.Fn.{FnOnceReturnsAt};
+ghost use Rattle.std.specs.Process.{exit_status};
 ghost use Rattle.input.specs.Count.{count_of};
 
-use std::io::{Eprint, Read};
+use std::io::{self, Eprint, Read};
 use std::process::ExitCode;
 
 // A read failed, after `count` bytes had been read.
@@ -33,8 +36,31 @@ pub fn read_input<R: Read>(reader: &mut R, buf: &mut [u8]) -> Result<usize, Read
     Ok(count)
 }
 
-// Says on standard error what the trouble is, and answers the status to end with.
-pub fn trouble(rt: &impl Eprint, what: &str) -> ExitCode {
-    let _ = rt.eprintln(what);
+// Has the input of the program `name` answered, which is read into the buffer. Answers the status to end with, and says
+// on standard error what the trouble is.
+pub fn run<R: Read, F: FnOnce(&[u8]) -> io::Result<()>>(
+    rt: &impl Eprint,
+    name: &str,
+    reader: &mut R,
+    buf: &mut [u8],
+    answer: F,
+) -> ExitCode
+    requires { F.IsAlwaysCallable answer }
+    ensures { exit_status result ≡ 0 → (count : ℕ) × Consumes (R.remaining reader.old) (R.remaining reader.new) (take count buf.new) × (count < length buf.new → IsAtEnd (R.remaining reader.new)) × FnOnceReturnsAt F.FnOnce answer (take count buf.new) (Ok tt) }
+{
+    let Ok(count) = read_input(reader, buf) else {
+        return trouble(rt, name, "standard input cannot be read");
+    };
+    match answer(&buf[..count]) {
+        Ok(()) => ExitCode::SUCCESS,
+        Err(_) => trouble(rt, name, "standard output cannot be written"),
+    }
+}
+
+// Says on standard error what the trouble of the program `name` is, and answers the status to end with.
+fn trouble(rt: &impl Eprint, name: &str, what: &str) -> ExitCode
+    ensures { exit_status result ≡ 1 }
+{
+    let _ = eprintln!(rt; "{name}: {what}");
     ExitCode::FAILURE
 }

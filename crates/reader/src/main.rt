@@ -5,7 +5,7 @@ ghost use Rattle.std.specs.Prelude.{◌≤◌, ◌<◌, IfOk, length};
 
 mod show;
 
-use input::{read_input, trouble};
+use input::run;
 use plan::Plan;
 use show::{ActivityLine, FirstLine};
 use std::io;
@@ -62,11 +62,11 @@ fn show_files(rt: &impl Print, s: &[u8]) -> io::Result<()> {
 
 fn main(rt: HostRuntime) -> ExitCode {
     let mut space = [0u8; 262144];
-    let Ok(n) = read_input(&mut rt.stdin(), &mut space) else {
-        return trouble(&rt, "reader: standard input cannot be read");
-    };
-    if show_files(&rt, &space[..n]).is_err() {
-        return trouble(&rt, "reader: standard output cannot be written");
-    }
-    ExitCode::SUCCESS
+    run(
+        &rt,
+        "reader",
+        &mut rt.stdin(),
+        &mut space,
+        |s| show_files(&rt, s),
+    )
 }
