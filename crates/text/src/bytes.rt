@@ -1,24 +1,23 @@
 // Bytes written one behind another, in fixed memory.
-ghost use Rattle.std.specs.Prelude.{◌≡◌, ℕ, ◌+◌, ◌≤◌, List, [], ◌++◌, length, take};
+ghost use Rattle.std.specs.Prelude.{◌≡◌, ◌+◌, ◌≤◌, [], ◌++◌, length};
 ghost use Rattle.rules.specs.Number.{decimal};
 
 use crate::number::put_number;
-use crate::word::put_bytes;
+use items::List;
 use std::marker::Model;
 
 // At most N bytes. Clauses see the list of those written.
 #[derive(Drop)]
 pub struct Bytes<const N: usize> {
-    room: [u8; N],
-    count: usize,
+    written: List<u8, N>,
 }
 
 impl<const N: usize> Model for Bytes<N> {
+    ghost use Rattle.std.specs.Prelude.{ℕ, List};
+
     ghost Value = { List ℕ };
 
-    ghost view = { λ b. take b.count b.room };
-
-    ghost invariant = { λ b. b.count ≤ N };
+    ghost view = { λ b. b.written };
 }
 
 impl<const N: usize> Bytes<N> {
@@ -27,8 +26,7 @@ impl<const N: usize> Bytes<N> {
         ensures { result ≡ [] }
     {
         Bytes {
-            room: [0; N],
-            count: 0,
+            written: List::new(),
         }
     }
 
@@ -37,7 +35,7 @@ impl<const N: usize> Bytes<N> {
         ensures value { result.now ≡ self.now }
         ensures within { length self.now ≤ N }
     {
-        &self.room[..self.count]
+        self.written.as_slice()
     }
 
     // Writes the bytes of a word.
@@ -45,7 +43,7 @@ impl<const N: usize> Bytes<N> {
         requires { length self.old + length word.now ≤ N }
         ensures { self.new ≡ self.old ++ word.now }
     {
-        self.count = put_bytes(&mut self.room, self.count, word);
+        self.written.extend(word);
     }
 
     // Writes the digits of a number, at most 20.
@@ -54,6 +52,8 @@ impl<const N: usize> Bytes<N> {
         ensures text { self.new ≡ self.old ++ decimal x }
         ensures within { length self.new ≤ length self.old + 20 }
     {
-        self.count = put_number(&mut self.room, self.count, x);
+        let mut digits = [0; 20];
+        let count = put_number(&mut digits, 0, x);
+        self.push(&digits[..count]);
     }
 }

@@ -91,6 +91,7 @@ impl<const N: usize> Tally<N> {
 
 // The list field s of this form, of at most N items.
 pub fn read_list<const N: usize>(s: &[u8], form: Form) -> Result<Items<N>, Fault>
+    // Calls that change a tally owe that its size is below 2 ^ 63.
     requires { N ≤ 32 }
     ensures { read_as (λ xs. xs) result ≡ list_field (kind_of form N) s.now }
 {
