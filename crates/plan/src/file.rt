@@ -2,7 +2,6 @@
 ghost use Rattle.std.specs.Prelude.{◌≡◌, [], ◌+◌, ◌≤◌, ◌<◌, IfOk, length, drop};
 ghost use Rattle.text.specs.Text.{index_of};
 ghost use Rattle.activity.specs.View.{header_view};
-ghost use Rattle.order.specs.Lines.{Rises};
 ghost use Rattle.plan.specs.Said.{LineIn, LinesIn};
 ghost use Rattle.plan.specs.Reached.{lines_from, line_from, lines_view};
 
@@ -27,10 +26,7 @@ fn read_line(s: &[u8], at: usize, end: usize, header: Header, lines: &Lines) -> 
     ensures line_in { IfOk result (λ l. LineIn (header_view header) s.now l × (l.at ≡ at) × (end < length s.now)) }
 {
     let line = &s[at..end];
-    if end == s.len() {
-        return Err(Fault::NotFormed);
-    }
-    if !formed(line, &ACT, 15) {
+    if end == s.len() || !formed(line, &ACT, 15) {
         return Err(Fault::NotFormed);
     }
     if MOST_LINES <= lines.len() {
@@ -52,7 +48,6 @@ pub fn read_lines(s: &[u8], from: usize, header: Header) -> Result<Lines, Refusa
     requires { (from ≤ length s.now) × (length s.now ≤ 60000) }
     ensures value { lines_from (header_view header) s.now [] from ≡ lines_view (header_view header) s.now result }
     ensures said { IfOk result (λ lines. LinesIn (header_view header) s.now lines) }
-    ensures rises { IfOk result Rises }
 {
     let mut lines = Lines::new();
     let mut at = from;

@@ -3,7 +3,6 @@ ghost use Rattle.std.specs.Prelude.{◌≡◌, ◌+◌, ◌<◌, ◌≤◌, IfOk
 ghost use Rattle.rules.specs.Reading.{accepted, after_lines, reading};
 ghost use Rattle.text.specs.Text.{index_of};
 ghost use Rattle.activity.specs.View.{header_view};
-ghost use Rattle.order.specs.Lines.{Rises};
 ghost use Rattle.plan.specs.Said.{LinesIn, plan_of, in_order};
 ghost use Rattle.plan.specs.Reading.{reading_view};
 ghost use Rattle.plan.specs.Reached.{first_from};
@@ -15,7 +14,7 @@ use activity::Header;
 use charge::out_of_reach;
 use line::fields::formed;
 use line::first_line::read_header;
-use order::Lines;
+use order::{Lines, line_of, ordered};
 use rules::{Fault, Refusal};
 use text::field::find;
 use text::word::PLAN;
@@ -30,10 +29,7 @@ fn read_first(s: &[u8], end: usize) -> Result<Header, Fault>
     ensures ended { IfOk result (λ h. end < length s.now) }
 {
     let line = &s[..end];
-    if end == s.len() {
-        return Err(Fault::NotFormed);
-    }
-    if !formed(line, &PLAN, 12) {
+    if end == s.len() || !formed(line, &PLAN, 12) {
         return Err(Fault::NotFormed);
     }
     read_header(line)
@@ -42,14 +38,13 @@ fn read_first(s: &[u8], end: usize) -> Result<Header, Fault>
 // What the file s says, with this header and these lines.
 fn judge(s: &[u8], header: Header, lines: Lines) -> Result<Plan, Refusal>
     requires said { LinesIn (header_view header) s.now lines }
-    requires rises { Rises lines }
     requires read { in_order (reading s.now) ≡ in_order (after_lines (accepted (plan_of (header_view header) s.now lines))) }
     ensures value { reading_view result ≡ in_order (reading s.now) }
     ensures bytes { IfOk result (λ plan. plan.bytes.now ≡ s.now) }
 {
-    let by_place = lines.ordered();
+    let by_place = ordered(&lines);
     if let Some(misplaced) = first_misplaced(s, header, by_place.as_slice()) {
-        let line = lines.line_of(misplaced.id).unwrap();
+        let line = line_of(&lines, u32::from(misplaced.id)).unwrap();
         return Err(Refusal {
             fault: Fault::Misplaced,
             line,

@@ -13,21 +13,17 @@ use Rattle.plan.specs.Reached.{line_from}
 use Rattle.plan.proofs.LineAt.{line_to, line_says, read_value, read_fault}
 use Rattle.plan.proofs.Lining.{next_ends, next_2, next_5, next_fault, next_6, next_on, narrow}
 use Rattle.plan.proofs.file.read_line.Goals as goal
-use Rattle.plan.proofs.file.read_line.Goals.{Else-not-formed, In_ok-activity, Else-says_id}
+use Rattle.plan.proofs.file.read_line.Goals.{then-end-s-via-then-end-s, then-end-s-via-else-end-s+then-not-formed, Else-not-formed, In_ok-activity, Else-says_id}
 
 pub returns-then-end-s-clause-value : goal.returns-then-end-s-clause-value
 unfolding line_from
 returns-then-end-s-clause-value c =
     let a = c.args in
     let at = c.requires.at_next_lf in
-    next_ends (header_view a.header) a.s.now a.lines.now a.at a.end at.2 at.1 (omega arith)
-
-pub returns-then-not-formed-clause-value : goal.returns-then-not-formed-clause-value
-unfolding line_from
-returns-then-not-formed-clause-value c =
-    let a = c.args in
-    let at = c.requires.at_next_lf in
-    next_2 (header_view a.header) a.s.now a.lines.now a.at a.end at.2 (omega arith) (rw (← line_to a.s.now a.at a.end at.2) (sym c.formed.ensures ∙ c.if-not-formed.true))
+    elim c.then-end-s.branch [
+      | then-end-s-via-then-end-s w ↦ next_ends (header_view a.header) a.s.now a.lines.now a.at a.end at.2 at.1 (omega arith)
+      | then-end-s-via-else-end-s+then-not-formed w ↦ next_2 (header_view a.header) a.s.now a.lines.now a.at a.end at.2 (omega arith) (rw (← line_to a.s.now a.at a.end at.2) (sym w.formed.ensures ∙ w.if-not-formed.true))
+    ]
 
 -- the line is formed
 form : (c : Else-not-formed) → is_formed (bytes "act") 15 (line_at c.args.s.now c.args.at) ≡ true

@@ -1,18 +1,15 @@
 -- `file::read_lines` meets its contract: the lines read and the bytes that are left give the answer.
 use Rattle.std.proofs.Common.{rules, arith, ◌≡◌, ◌∙◌, ◌+◌, ◌<◌, length, Err, refl, ap}
 use Rattle.std.proofs.lemmas.Result.{IfOk-at_ok}
-use Rattle.std.proofs.lemmas.List.Elements.{All-push, All-weaker}
+use Rattle.std.proofs.lemmas.List.Elements.{All-push}
 use Rattle.activity.specs.View.{header_view}
-use Rattle.order.specs.Lines.{Rises}
 use Rattle.plan.specs.Said.{LineIn}
 use Rattle.plan.proofs.Mapped.{Mapped, mapped_ok, mapped_err}
-use Rattle.plan.proofs.Ordering.{rises_more}
 use Rattle.plan.proofs.Lining.{all_read, line_refused, line_more}
 use Rattle.plan.proofs.file.read_lines.Goals as goal
 
 pub loop-at-init : goal.loop-at-init
-unfolding Rises
-loop-at-init c = rw c.new-lines.ensures (record { inside = omega arith; said = λ k d h. absurd (omega arith); rises = tt; before = λ k d h. absurd (omega arith); value = refl })
+loop-at-init c = rw c.new-lines.ensures (record { inside = omega arith; said = λ k d h. absurd (omega arith); value = refl })
 
 pub returns-in_err-next-clause-value : goal.returns-in_err-next-clause-value
 returns-in_err-next-clause-value c =
@@ -38,8 +35,6 @@ loop-at-preserved c =
     (record {
       inside = omega arith;
       said = All-push (LineIn h a.s.now) l.lines line l.invariant.said k.0;
-      rises = rises_more l.lines line l.invariant.rises (rw k.1 l.invariant.before);
-      before = All-push (λ x. x.at < c.find-end.result + 1) l.lines line (All-weaker (λ x. x.at < l.at) (λ x. x.at < c.find-end.result + 1) (λ x p. omega (arith, c.find-end.ensures.lower_bound.0)) l.lines l.invariant.before) (omega (arith, k.1, c.find-end.ensures.lower_bound.0));
       value = l.invariant.value ∙ c.read_line.ensures.value ∙ rw e (line_more h a.s.now l.lines (c.find-end.result + 1) line);
     })
 

@@ -1,8 +1,6 @@
 -- The loop of `file::read_lines`: the lines read and the bytes that are left give the answer.
-use Rattle.std.proofs.Common.{◌≡◌, ◌-◌, ◌≤◌, ◌<◌, [], length}
-use Rattle.std.specs.List.{All}
+use Rattle.std.proofs.Common.{◌≡◌, ◌-◌, ◌≤◌, [], length}
 use Rattle.activity.specs.View.{header_view}
-use Rattle.order.specs.Lines.{Rises}
 use Rattle.plan.specs.Said.{LinesIn}
 use Rattle.plan.specs.Reached.{lines_from}
 use Rattle.plan.proofs.file.read_lines.Given as goal
@@ -12,8 +10,6 @@ invariant-loop-at l =
     record {
       inside : l.at ≤ length l.s;
       said : LinesIn (header_view l.header) l.s l.lines;
-      rises : Rises l.lines;
-      before : All (λ line. line.at < l.at) l.lines;
       value : lines_from (header_view l.header) l.s [] l.from ≡ lines_from (header_view l.header) l.s l.lines l.at;
     }
 

@@ -17,7 +17,7 @@ pub first_misplaced-requires : goal.first_misplaced-requires
 first_misplaced-requires c = rw (c.as_slice.ensures.value, c.ordered-by_place.ensures.value) (order_in (header_view c.args.header) c.args.s.now c.args.lines c.requires.said)
 
 pub unwrap-line-requires : goal.unwrap-line-requires
-unwrap-line-requires c = rw c.line_of.ensures (line_found c.args.lines c.ordered-by_place.result c.in-Some.misplaced c.ordered-by_place.ensures.same_lines (rw c.as_slice.ensures.value at c.in-Some.ensures.among))
+unwrap-line-requires c = rw (c.line_of.ensures, c.from.ensures) (line_found c.args.lines c.ordered-by_place.result c.in-Some.misplaced c.ordered-by_place.ensures.same_lines (rw c.as_slice.ensures.value at c.in-Some.ensures.among))
 
 pub returns-in-Some-clause-value : goal.returns-in-Some-clause-value
 returns-in-Some-clause-value c =
@@ -27,7 +27,7 @@ returns-in-Some-clause-value c =
     let x = c.in-Some.misplaced in
     let m = rw (c.as_slice.ensures.value, c.ordered-by_place.ensures.value) at c.in-Some.ensures.value in
     let l = All-contains (LineIn h s) (order_lines a.lines) x (order_in h s a.lines c.requires.said) (rw (c.as_slice.ensures.value, c.ordered-by_place.ensures.value) at c.in-Some.ensures.among) in
-    refused_view _ ∙ sym (c.requires.read ∙ judged_7 h s a.lines c.requires.said x m ∙ ap (no 7) (line_is h s a.lines c.requires.said (said_by h s x).id ∙ rw (← l.id_is) (ap (λ o. unwrap_or o 0) (sym c.line_of.ensures ∙ c.unwrap-line.ensures))))
+    refused_view _ ∙ sym (c.requires.read ∙ judged_7 h s a.lines c.requires.said x m ∙ ap (no 7) (line_is h s a.lines c.requires.said (said_by h s x).id ∙ rw (← l.id_is) (ap (λ o. unwrap_or o 0) (rw c.from.ensures at (sym c.line_of.ensures ∙ c.unwrap-line.ensures)))))
 
 -- no place is misplaced
 none_misplaced : (c : In_default) → misplaced [] (map (said_by (header_view c.args.header) c.args.s.now) (order_lines c.args.lines)) ≡ none

@@ -3,14 +3,16 @@ use Rattle.std.proofs.Common.{arith, ◌∙◌, sym}
 use Rattle.plan.specs.Reached.{first_from}
 use Rattle.plan.proofs.Judging.{first_ends, first_2, first_read}
 use Rattle.plan.proofs.reading.read_first.Goals as goal
+use Rattle.plan.proofs.reading.read_first.Goals.{then-end-s-via-then-end-s, then-end-s-via-else-end-s+then-not-formed}
 
 pub returns-then-end-s-clause-value : goal.returns-then-end-s-clause-value
 unfolding first_from
-returns-then-end-s-clause-value c = first_ends c.args.s.now c.requires.2 c.args.end c.requires.0 (omega arith)
-
-pub returns-then-not-formed-clause-value : goal.returns-then-not-formed-clause-value
-unfolding first_from
-returns-then-not-formed-clause-value c = first_2 c.args.s.now c.requires.2 c.args.end c.requires.0 (omega arith) (sym c.formed.ensures ∙ c.if-not-formed.true)
+returns-then-end-s-clause-value c =
+    let s = c.args.s.now in
+    elim c.then-end-s.branch [
+      | then-end-s-via-then-end-s w ↦ first_ends s c.requires.2 c.args.end c.requires.0 (omega arith)
+      | then-end-s-via-else-end-s+then-not-formed w ↦ first_2 s c.requires.2 c.args.end c.requires.0 (omega arith) (sym w.formed.ensures ∙ w.if-not-formed.true)
+    ]
 
 pub returns-clause-value : goal.returns-clause-value
 returns-clause-value c = first_read c.args.s.now c.requires.2 c.args.end c.requires.0 (omega arith) (sym c.formed.ensures ∙ c.if-not-formed.false) c.read_header.result c.read_header.ensures

@@ -1,5 +1,5 @@
 -- The digits stand behind what was there, and are at most 20.
-use Rattle.std.proofs.Common.{rules, arith, ◌≡◌, ◌≤◌, ◌+◌, ◌++◌, ◌∙◌, ap, sym, length, take, replicate}
+use Rattle.std.proofs.Common.{arith, ◌≡◌, ◌++◌, ◌∙◌, ap, length, take, replicate}
 use Rattle.std.proofs.lemmas.List.{length-append}
 use Rattle.rules.specs.Number.{decimal}
 use Rattle.text.proofs.Decimal.{decimal_most}
