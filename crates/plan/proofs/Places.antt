@@ -10,10 +10,6 @@ use Rattle.plan.specs.View.{plan_view}
 use Rattle.plan.specs.declared.Plan.{Plan as PlanStruct}
 use Rattle.plan.proofs.Accepted.{stands_ordered}
 
-pub place_header : (p : PlanStruct) → (plan_view p).header ≡ header_view p.header
-unfolding plan_view
-place_header p = refl
-
 pub place_count : (p : PlanStruct) → length (plan_view p).activities ≡ length p.lines
 unfolding plan_view
 place_count p = length-map p.lines (said_by (header_view p.header) p.bytes.now)

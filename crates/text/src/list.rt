@@ -12,7 +12,8 @@ use items::{Item, Items};
 use rules::Fault;
 
 // A kind of list: the byte inside an item of two numbers; the greatest first and second number; and whether an item spans
-// its first to its second number, so that the next begins behind the second.
+// its first to its second number, so that the next begins behind the second. `spans` is a fact of the kind, as the mark is: no
+// function is asked by it to do one thing or another.
 #[derive(Clone, Copy)]
 pub struct Form {
     pub mark: Option<u8>,

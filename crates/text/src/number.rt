@@ -50,7 +50,7 @@ pub fn put_number(out: &mut [u8], at: usize, x: u64) -> usize
 {
     let end = at + decimal_len(x);
     let mut y = x;
-    // By index: of the elements that `iter_mut` has lent out a proof knows nothing afterwards.
+    // By index: behind a loop over `iter_mut().rev()` a proof knows nothing of what was written.
     for i in (at..end).rev() {
         out[i] = b'0' + (y % 10) as u8;
         y /= 10;
