@@ -1,6 +1,6 @@
 -- Laws of a plan's places, for callers: how many there are, and what the activity of each is.
 -- Assumes nothing.
-use Rattle.std.proofs.Common.{◌≡◌, ◌<◌, ℕ, length, slice_index_or, refl}
+use Rattle.std.proofs.Common.{◌≡◌, ◌<◌, ℕ, length, slice_index_or}
 use Rattle.std.proofs.lemmas.List.{length-map, get_or-map}
 use Rattle.rules.specs.Outcomes.{activity_at, no_activity}
 use Rattle.activity.specs.View.{header_view}

@@ -19,12 +19,19 @@ fn line_at(s: &[u8], at: usize) -> &[u8]
     &s[at..end]
 }
 
-// The activity of the line of s that begins at `at`, in a plan with this header.
-pub fn activity_in(s: &[u8], at: u16, header: Header) -> Activity
-    requires { LineSays (header_view header) s.now at }
-    ensures { activity_view result ≡ activity_in (header_view header) s.now at }
+// A file whose first line has been read: its bytes, and what that line says.
+#[derive(Clone, Copy)]
+pub struct File<'a> {
+    pub bytes: &'a [u8],
+    pub header: Header,
+}
+
+// The activity of the line that begins at `at`. That the line says one is asked for, since a `Line` alone does not know its file.
+pub fn activity_in(file: &File, at: u16) -> Activity
+    requires { LineSays (header_view file.now.header) file.now.bytes.now at }
+    ensures { activity_view result ≡ activity_in (header_view file.now.header) file.now.bytes.now at }
 {
-    read_activity(line_at(s, usize::from(at)), &header).unwrap()
+    read_activity(line_at(file.bytes, usize::from(at)), &file.header).unwrap()
 }
 
 impl Plan<'_> {
@@ -41,6 +48,10 @@ impl Plan<'_> {
         requires { place < length (plan_view self.now).activities }
         ensures { activity_view result ≡ activity_at (plan_view self.now) place }
     {
-        activity_in(self.bytes, self.lines.as_slice()[place].at, self.header)
+        let file = File {
+            bytes: self.bytes,
+            header: self.header,
+        };
+        activity_in(&file, self.lines.as_slice()[place].at)
     }
 }

@@ -8,8 +8,7 @@ ghost use Rattle.plan.specs.LineAt.{LineSays};
 ghost use Rattle.plan.specs.Said.{said_by, LinesIn};
 ghost use Rattle.plan.specs.Misplaced.{as_option};
 
-use crate::accessor::activity_in;
-use activity::Header;
+use crate::accessor::{File, activity_in};
 use items::Item;
 use order::Line;
 
@@ -27,23 +26,23 @@ fn all_said(ids: &[Item], lines: &[Line]) -> bool
     ids.iter().all(|item| says_id(lines, item.first))
 }
 
-// Whether each id that the line of s names in `after` is that of one of the earlier lines.
-fn follows(s: &[u8], line: Line, header: Header, earlier: &[Line]) -> bool
-    requires { LineSays (header_view header) s.now line.at }
-    ensures { result ≡ list_all (λ id. list_any (λ other. eqb other.id id) earlier.now) (said_by (header_view header) s.now line).after }
+// Whether each id that the line of the file names in `after` is that of one of the earlier lines.
+fn follows(file: &File, line: Line, earlier: &[Line]) -> bool
+    requires { LineSays (header_view file.now.header) file.now.bytes.now line.at }
+    ensures { result ≡ list_all (λ id. list_any (λ other. eqb other.id id) earlier.now) (said_by (header_view file.now.header) file.now.bytes.now line).after }
 {
-    let activity = activity_in(s, line.at, header);
+    let activity = activity_in(file, line.at);
     all_said(activity.after.as_slice(), earlier)
 }
 
-// The first of these lines of s, by place, whose `after` names no activity at an earlier place.
-pub fn first_misplaced(s: &[u8], header: Header, lines: &[Line]) -> Option<Line>
-    requires { LinesIn (header_view header) s.now lines.now }
-    ensures value { misplaced [] (map (said_by (header_view header) s.now) lines.now) ≡ as_option (option_map (said_by (header_view header) s.now) result) }
+// The first of these lines of the file, by place, whose `after` names no activity at an earlier place.
+pub fn first_misplaced(file: &File, lines: &[Line]) -> Option<Line>
+    requires { LinesIn (header_view file.now.header) file.now.bytes.now lines.now }
+    ensures value { misplaced [] (map (said_by (header_view file.now.header) file.now.bytes.now) lines.now) ≡ as_option (option_map (said_by (header_view file.now.header) file.now.bytes.now) result) }
     ensures among { IfSome result (Contains lines.now) }
 {
     for (place, line) in lines.iter().enumerate() {
-        if !follows(s, *line, header, &lines[..place]) {
+        if !follows(file, *line, &lines[..place]) {
             return Some(*line);
         }
     }

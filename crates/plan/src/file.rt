@@ -5,8 +5,8 @@ ghost use Rattle.activity.specs.View.{header_view};
 ghost use Rattle.plan.specs.Said.{LineIn, LinesIn};
 ghost use Rattle.plan.specs.Reached.{lines_from, line_from, lines_view};
 
+use crate::accessor::File;
 use crate::after::says_id;
-use activity::Header;
 use line::activity_line::read_activity;
 use line::fields::formed;
 use order::{Line, Lines};
@@ -17,22 +17,22 @@ use text::word::ACT;
 // A plan has at most this many activities.
 const MOST_LINES: usize = PLACES;
 
-// The line of s from byte `at` to byte `end`, behind the lines read, in a plan with this header.
-fn read_line(s: &[u8], at: usize, end: usize, header: Header, lines: &Lines) -> Result<Line, Fault>
-    requires said { LinesIn (header_view header) s.now lines.now }
-    requires at_next_lf { (length s.now ≤ 60000) × (at < length s.now) × (end ≡ at + index_of 10 (drop at s.now)) × (at ≤ end) × (end ≤ length s.now) }
-    ensures value { lines_from (header_view header) s.now lines.now at ≡ line_from (header_view header) s.now lines.now (end + 1) result }
+// The line from byte `at` to byte `end`, behind the lines read.
+fn read_line(file: &File, at: usize, end: usize, lines: &Lines) -> Result<Line, Fault>
+    requires said { LinesIn (header_view file.now.header) file.now.bytes.now lines.now }
+    requires at_next_lf { (length file.now.bytes.now ≤ 60000) × (at < length file.now.bytes.now) × (end ≡ at + index_of 10 (drop at file.now.bytes.now)) × (at ≤ end) × (end ≤ length file.now.bytes.now) }
+    ensures value { lines_from (header_view file.now.header) file.now.bytes.now lines.now at ≡ line_from (header_view file.now.header) file.now.bytes.now lines.now (end + 1) result }
     ensures room { IfOk result (λ l. length lines.now < 64) }
-    ensures line_in { IfOk result (λ l. LineIn (header_view header) s.now l × (l.at ≡ at) × (end < length s.now)) }
+    ensures line_in { IfOk result (λ l. LineIn (header_view file.now.header) file.now.bytes.now l × (l.at ≡ at) × (end < length file.now.bytes.now)) }
 {
-    let line = &s[at..end];
-    if end == s.len() || !formed(line, &ACT, 15) {
+    let line = &file.bytes[at..end];
+    if end == file.bytes.len() || !formed(line, &ACT, 15) {
         return Err(Fault::NotFormed);
     }
     if MOST_LINES <= lines.len() {
         return Err(Fault::TooMany);
     }
-    let activity = read_activity(line, &header)?;
+    let activity = read_activity(line, &file.header)?;
     if says_id(lines.as_slice(), activity.id) {
         return Err(Fault::Repeated);
     }
@@ -43,18 +43,19 @@ fn read_line(s: &[u8], at: usize, end: usize, header: Header, lines: &Lines) -> 
     })
 }
 
-// The lines of s from the byte `from` on, in a plan with this header.
-pub fn read_lines(s: &[u8], from: usize, header: Header) -> Result<Lines, Refusal>
-    requires { (from ≤ length s.now) × (length s.now ≤ 60000) }
-    ensures value { lines_from (header_view header) s.now [] from ≡ lines_view (header_view header) s.now result }
-    ensures said { IfOk result (λ lines. LinesIn (header_view header) s.now lines) }
+// The lines from the byte `from` on.
+pub fn read_lines(file: &File, from: usize) -> Result<Lines, Refusal>
+    requires { (from ≤ length file.now.bytes.now) × (length file.now.bytes.now ≤ 60000) }
+    ensures value { lines_from (header_view file.now.header) file.now.bytes.now [] from ≡ lines_view (header_view file.now.header) file.now.bytes.now result }
+    ensures said { IfOk result (λ lines. LinesIn (header_view file.now.header) file.now.bytes.now lines) }
 {
     let mut lines = Lines::new();
     let mut at = from;
-    while at < s.len() {
-        let end = find(s, at, b'\n');
+    // By the byte where a line begins, which is kept of it, and which `split_inclusive` does not say.
+    while at < file.bytes.len() {
+        let end = find(file.bytes, at, b'\n');
         let line = lines.len() as u32 + 2;
-        let next = read_line(s, at, end, header, &lines).map_err(|fault| Refusal { fault, line })?;
+        let next = read_line(file, at, end, &lines).map_err(|fault| Refusal { fault, line })?;
         lines.push(next);
         at = end + 1;
     }

@@ -22,5 +22,6 @@ pub struct Plan<'a> {
     pub header: Header,
     pub lines: Lines,
     pub ghost said: { LinesIn (header_view header) bytes.now lines },
+    // That the whole file is accepted follows from no other field: the calls rest on it, and `read` alone makes a Plan.
     pub ghost is_accepted: { in_order (reading bytes.now) ≡ accepted (plan_of (header_view header) bytes.now lines) },
 }

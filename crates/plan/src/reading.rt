@@ -8,6 +8,7 @@ ghost use Rattle.plan.specs.Reading.{reading_view};
 ghost use Rattle.plan.specs.Reached.{first_from};
 
 use crate::Plan;
+use crate::accessor::File;
 use crate::after::first_misplaced;
 use crate::file::read_lines;
 use activity::Header;
@@ -19,7 +20,7 @@ use rules::{Fault, Refusal};
 use text::field::find;
 use text::word::PLAN;
 
-// A plan file has at most this many bytes.
+// A plan file has at most this many bytes. `read` tests it once, and the three functions that need it ask for it.
 const MOST_BYTES: usize = 60000;
 
 // What the first line of s says, which ends at byte `end`.
@@ -35,30 +36,27 @@ fn read_first(s: &[u8], end: usize) -> Result<Header, Fault>
     read_header(line)
 }
 
-// What the file s says, with this header and these lines.
-fn judge(s: &[u8], header: Header, lines: Lines) -> Result<Plan, Refusal>
-    requires said { LinesIn (header_view header) s.now lines }
-    requires read { in_order (reading s.now) ≡ in_order (after_lines (accepted (plan_of (header_view header) s.now lines))) }
-    ensures value { reading_view result ≡ in_order (reading s.now) }
-    ensures bytes { IfOk result (λ plan. plan.bytes.now ≡ s.now) }
+// What the file says, with these lines.
+fn judge<'a>(file: &File<'a>, lines: Lines) -> Result<Plan<'a>, Refusal>
+    requires said { LinesIn (header_view file.now.header) file.now.bytes.now lines }
+    requires read { in_order (reading file.now.bytes.now) ≡ in_order (after_lines (accepted (plan_of (header_view file.now.header) file.now.bytes.now lines))) }
+    ensures value { reading_view result ≡ in_order (reading file.now.bytes.now) }
+    ensures bytes { IfOk result (λ plan. plan.bytes.now ≡ file.now.bytes.now) }
 {
     let by_place = ordered(&lines);
-    if let Some(misplaced) = first_misplaced(s, header, by_place.as_slice()) {
+    if let Some(misplaced) = first_misplaced(file, by_place.as_slice()) {
         let line = line_of(&lines, u32::from(misplaced.id)).unwrap();
         return Err(Refusal {
             fault: Fault::Misplaced,
             line,
         });
     }
-    if out_of_reach(header) {
-        return Err(Refusal {
-            fault: Fault::OutOfReach,
-            line: 0,
-        });
+    if out_of_reach(file.header) {
+        return Err(Fault::OutOfReach.into());
     }
     Ok(Plan {
-        bytes: s,
-        header,
+        bytes: file.bytes,
+        header: file.header,
         lines: by_place,
     })
 }
@@ -69,13 +67,11 @@ pub fn read(s: &[u8]) -> Result<Plan, Refusal>
     ensures bytes { IfOk result (λ plan. plan.bytes.now ≡ s.now) }
 {
     if MOST_BYTES < s.len() {
-        return Err(Refusal {
-            fault: Fault::TooLong,
-            line: 0,
-        });
+        return Err(Fault::TooLong.into());
     }
     let end = find(s, 0, b'\n');
     let header = read_first(s, end).map_err(|fault| Refusal { fault, line: 1 })?;
-    let lines = read_lines(s, end + 1, header)?;
-    judge(s, header, lines)
+    let file = File { bytes: s, header };
+    let lines = read_lines(&file, end + 1)?;
+    judge(&file, lines)
 }

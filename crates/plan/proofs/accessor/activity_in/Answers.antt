@@ -8,7 +8,7 @@ use Rattle.plan.proofs.LineAt.{read_ok, read_value, value_is}
 use Rattle.plan.proofs.accessor.activity_in.Goals as goal
 use Rattle.plan.proofs.accessor.activity_in.Goals.{After-read_activity}
 
-read : (c : After-read_activity) → read_as activity_view c.read_activity.result ≡ value (activity_in (header_view c.args.header) c.args.s.now c.args.at)
+read : (c : After-read_activity) → read_as activity_view c.read_activity.result ≡ value (activity_in (header_view c.args.file.now.header) c.args.file.now.bytes.now c.args.at)
 read c = c.read_activity.ensures ∙ rw (c.line_at.ensures, c.from.ensures) c.requires.says
 
 pub unwrap-requires : goal.unwrap-requires

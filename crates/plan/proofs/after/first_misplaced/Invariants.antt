@@ -4,4 +4,4 @@ use Rattle.plan.proofs.Misplaced.{Tried}
 use Rattle.plan.proofs.after.first_misplaced.Given as goal
 
 abbrev pub invariant-loop-place : goal.invariant-loop-place
-invariant-loop-place l = Tried (header_view l.header) l.s l.lines l.place
+invariant-loop-place l = Tried (header_view l.file.header) l.file.bytes.now l.lines l.place

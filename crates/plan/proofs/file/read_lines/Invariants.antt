@@ -8,10 +8,10 @@ use Rattle.plan.proofs.file.read_lines.Given as goal
 abbrev pub invariant-loop-at : goal.invariant-loop-at
 invariant-loop-at l =
     record {
-      inside : l.at ≤ length l.s;
-      said : LinesIn (header_view l.header) l.s l.lines;
-      value : lines_from (header_view l.header) l.s [] l.from ≡ lines_from (header_view l.header) l.s l.lines l.at;
+      inside : l.at ≤ length l.file.bytes.now;
+      said : LinesIn (header_view l.file.header) l.file.bytes.now l.lines;
+      value : lines_from (header_view l.file.header) l.file.bytes.now [] l.from ≡ lines_from (header_view l.file.header) l.file.bytes.now l.lines l.at;
     }
 
 abbrev pub decreases-loop-at : goal.decreases-loop-at
-decreases-loop-at l = length l.s - l.at
+decreases-loop-at l = length l.file.bytes.now - l.at

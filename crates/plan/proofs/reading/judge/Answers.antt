@@ -14,7 +14,7 @@ use Rattle.plan.proofs.reading.judge.Goals as goal
 use Rattle.plan.proofs.reading.judge.Goals.{In_default}
 
 pub first_misplaced-requires : goal.first_misplaced-requires
-first_misplaced-requires c = rw (c.as_slice.ensures.value, c.ordered-by_place.ensures.value) (order_in (header_view c.args.header) c.args.s.now c.args.lines c.requires.said)
+first_misplaced-requires c = rw (c.as_slice.ensures.value, c.ordered-by_place.ensures.value) (order_in (header_view c.args.file.now.header) c.args.file.now.bytes.now c.args.lines c.requires.said)
 
 pub unwrap-line-requires : goal.unwrap-line-requires
 unwrap-line-requires c = rw (c.line_of.ensures, c.from.ensures) (line_found c.args.lines c.ordered-by_place.result c.in-Some.misplaced c.ordered-by_place.ensures.same_lines (rw c.as_slice.ensures.value at c.in-Some.ensures.among))
@@ -22,29 +22,29 @@ unwrap-line-requires c = rw (c.line_of.ensures, c.from.ensures) (line_found c.ar
 pub returns-in-Some-clause-value : goal.returns-in-Some-clause-value
 returns-in-Some-clause-value c =
     let a = c.args in
-    let h = header_view a.header in
-    let s = a.s.now in
+    let h = header_view a.file.now.header in
+    let s = a.file.now.bytes.now in
     let x = c.in-Some.misplaced in
     let m = rw (c.as_slice.ensures.value, c.ordered-by_place.ensures.value) at c.in-Some.ensures.value in
     let l = All-contains (LineIn h s) (order_lines a.lines) x (order_in h s a.lines c.requires.said) (rw (c.as_slice.ensures.value, c.ordered-by_place.ensures.value) at c.in-Some.ensures.among) in
     refused_view _ ∙ sym (c.requires.read ∙ judged_7 h s a.lines c.requires.said x m ∙ ap (no 7) (line_is h s a.lines c.requires.said (said_by h s x).id ∙ rw (← l.id_is) (ap (λ o. unwrap_or o 0) (rw c.from.ensures at (sym c.line_of.ensures ∙ c.unwrap-line.ensures)))))
 
 -- no place is misplaced
-none_misplaced : (c : In_default) → misplaced [] (map (said_by (header_view c.args.header) c.args.s.now) (order_lines c.args.lines)) ≡ none
+none_misplaced : (c : In_default) → misplaced [] (map (said_by (header_view c.args.file.now.header) c.args.file.now.bytes.now) (order_lines c.args.lines)) ≡ none
 none_misplaced c = rw (c.as_slice.ensures.value, c.ordered-by_place.ensures.value) at c.in_default.ensures.value
 
 pub returns-then-out_of_reach-clause-value : goal.returns-then-out_of_reach-clause-value
 returns-then-out_of_reach-clause-value c =
     let a = c.args in
-    refused_view _ ∙ sym (c.requires.read ∙ judged_9 (header_view a.header) a.s.now a.lines c.requires.said (none_misplaced (goal.at.returns-then-out_of_reach-clause-value c).In_default) (sym c.out_of_reach.ensures ∙ c.if-out_of_reach.true))
+    rw c.into.ensures (refused_view _) ∙ sym (c.requires.read ∙ judged_9 (header_view a.file.now.header) a.file.now.bytes.now a.lines c.requires.said (none_misplaced (goal.at.returns-then-out_of_reach-clause-value c).In_default) (sym c.out_of_reach.ensures ∙ c.if-out_of_reach.true))
 
 pub invariant_of-result : goal.invariant_of-result
 invariant_of-result c =
     let a = c.args in
     rw c.ordered-by_place.ensures.value
     (record {
-      said = order_in (header_view a.header) a.s.now a.lines c.requires.said;
-      is_accepted = c.requires.read ∙ judged_on (header_view a.header) a.s.now a.lines c.requires.said (none_misplaced (goal.at.invariant_of-result c).In_default) (sym c.out_of_reach.ensures ∙ c.if-out_of_reach.false);
+      said = order_in (header_view a.file.now.header) a.file.now.bytes.now a.lines c.requires.said;
+      is_accepted = c.requires.read ∙ judged_on (header_view a.file.now.header) a.file.now.bytes.now a.lines c.requires.said (none_misplaced (goal.at.invariant_of-result c).In_default) (sym c.out_of_reach.ensures ∙ c.if-out_of_reach.false);
     })
 
 pub returns-clause-value : goal.returns-clause-value

@@ -8,7 +8,7 @@ use Rattle.plan.proofs.Judging.{refused_view, read_1, first_refused, first_lines
 use Rattle.plan.proofs.reading.read.Goals as goal
 
 pub returns-then-s-gt-MOST_BYTES-clause-value : goal.returns-then-s-gt-MOST_BYTES-clause-value
-returns-then-s-gt-MOST_BYTES-clause-value c = refused_view _ ∙ sym (read_1 c.args.s.now c.if-s-gt-MOST_BYTES.true)
+returns-then-s-gt-MOST_BYTES-clause-value c = rw c.into.ensures (refused_view _) ∙ sym (read_1 c.args.s.now c.if-s-gt-MOST_BYTES.true)
 
 pub returns-in_err-header-clause-value : goal.returns-in_err-header-clause-value
 returns-in_err-header-clause-value c =
