@@ -1,16 +1,17 @@
 #![tactic(auto)]
 // Goes through a stored stream of plans and prints the answers of every call (tests/README.md, The corpus).
 // What a call must leave as it was is checked on the way: a line `wrong` says where it is not.
-ghost use Rattle.std.specs.Prelude.{◌≤◌, ◌<◌, IfOk, length};
+ghost use Rattle.std.specs.Prelude.{◌-◌, ◌≤◌, IfOk, length};
 
 mod answer;
 mod reports;
 mod starts;
 
+use input::records::Records;
 use input::run;
 use std::io;
 use std::process::ExitCode;
-use text::field::{field_at, find};
+use text::field::field_at;
 use text::number::read_number;
 
 // The first line of a record: how long the plan is, the places asked (from `first` to before `last`), how many sets.
@@ -52,36 +53,28 @@ fn answer_places(rt: &impl Print, plan: &[u8], asked: Asked) -> io::Result<()> {
     Ok(())
 }
 
-// Prints the answers to the record at `at`, and answers where the next one is.
-fn answer_record(rt: &impl Print, s: &[u8], at: usize) -> io::Result<usize>
-    requires { at < length s.now }
-    ensures { IfOk result (λ next. (at < next) × (next ≤ length s.now)) }
+// Prints the answers to the next record.
+fn answer_record(rt: &impl Print, records: &mut Records) -> io::Result<()>
+    ensures { IfOk result (λ _. length records.new ≤ length records.old - 1) }
 {
-    let end = find(s, at, b'\n');
-    if end == s.len() {
-        answer::wrong(rt, "a record without a first line")?;
-        return Ok(end);
-    }
-    let asked = asked_in(&s[at..end]);
-    let from = end + 1;
-    if ((s.len() - from) as u64) < asked.length {
-        answer::wrong(rt, "a record that is cut off")?;
-        return Ok(s.len());
-    }
-    let to = from + asked.length as usize;
-    let plan = &s[from..to];
+    let Some(line) = records.line() else {
+        return answer::wrong(rt, "a record without a first line");
+    };
+    let asked = asked_in(line);
+    let Some(plan) = records.bytes(asked.length) else {
+        return answer::wrong(rt, "a record that is cut off");
+    };
     reports::answer_reports(rt, plan)?;
-    answer_places(rt, plan, asked)?;
-    Ok(to)
+    answer_places(rt, plan, asked)
 }
 
 // Prints the answers to each record of s.
 fn answer_records(rt: &impl Print, s: &[u8]) -> io::Result<()> {
-    let mut at = 0;
+    let mut records = Records::of(s);
     let mut number = 0u64;
-    while at < s.len() {
+    while !records.is_empty() {
         println!(rt; "plan\t{number}")?;
-        at = answer_record(rt, s, at)?;
+        answer_record(rt, &mut records)?;
         number += 1;
     }
     Ok(())

@@ -7,6 +7,8 @@ ghost use Rattle.std.specs.Fn.{FnOnceReturnsAt};
 ghost use Rattle.std.specs.Process.{exit_status};
 ghost use Rattle.input.specs.Count.{count_of};
 
+pub mod records;
+
 use std::io::{self, Eprint, Read};
 use std::process::ExitCode;
 

@@ -1,16 +1,16 @@
 #![tactic(auto)]
 // Reads a stored set of plan files and prints what each says: its refusal, or the plan with its activities by place.
 // Standard input has each file behind a line with its length in bytes.
-ghost use Rattle.std.specs.Prelude.{◌≤◌, ◌<◌, IfOk, length};
+ghost use Rattle.std.specs.Prelude.{◌<◌, IfSome, length};
 
 mod show;
 
+use input::records::Records;
 use input::run;
 use plan::Plan;
 use show::{ActivityLine, FirstLine};
 use std::io;
 use std::process::ExitCode;
-use text::field::find;
 use text::number::read_number;
 
 // Prints a plan.
@@ -30,32 +30,19 @@ fn show_reading(rt: &impl Print, file: &[u8]) -> io::Result<()> {
     }
 }
 
-// Prints what the file at `at` says, and answers where the next one is.
-fn show_file(rt: &impl Print, s: &[u8], at: usize) -> io::Result<usize>
-    requires { at < length s.now }
-    ensures { IfOk result (λ next. (at < next) × (next ≤ length s.now)) }
+// The next file, if there is one.
+fn next_file<'a>(files: &mut Records<'a>) -> Option<&'a [u8]>
+    ensures { IfSome result (λ _. length files.new < length files.old) }
 {
-    let end = find(s, at, b'\n');
-    if end == s.len() {
-        return Ok(end);
-    }
-    let Some(n) = read_number(&s[at..end]) else {
-        return Ok(s.len());
-    };
-    let from = end + 1;
-    if ((s.len() - from) as u64) < n {
-        return Ok(s.len());
-    }
-    let to = from + n as usize;
-    show_reading(rt, &s[from..to])?;
-    Ok(to)
+    let n = read_number(files.line()?)?;
+    files.bytes(n)
 }
 
 // Prints what each file of s says.
 fn show_files(rt: &impl Print, s: &[u8]) -> io::Result<()> {
-    let mut at = 0;
-    while at < s.len() {
-        at = show_file(rt, s, at)?;
+    let mut files = Records::of(s);
+    while let Some(file) = next_file(&mut files) {
+        show_reading(rt, file)?;
     }
     Ok(())
 }
