@@ -1,8 +1,7 @@
 -- The definitions' tests over lists in the library's words.
 -- Assumes nothing.
-use Rattle.std.proofs.Common.{arith, ◌≡◌, ℕ, Bool, ◌&&◌, ◌||◌, List, [], ◌∷◌, eqb, refl, ap, ap₂}
+use Rattle.std.proofs.Common.{◌≡◌, Bool, ◌&&◌, ◌||◌, List, [], ◌∷◌, refl, ap, ap₂}
 use Rattle.std.specs.List.{list_any, list_all}
-use Rattle.std.proofs.lemmas.Bool.{eqb-true, eq-eqb}
 use Rattle.rules.specs.Tests.{any_of, every}
 
 pub any_is : {A : Type 0} (p : A → Bool) (xs : List A) → any_of p xs ≡ list_any p xs

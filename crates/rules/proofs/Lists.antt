@@ -1,16 +1,15 @@
 -- Tests over the first n numbers, and over the elements of a list.
 -- Assumes nothing.
-use Prim.Native.Nat.{ℕ, zero, suc, ◌+◌, ◌<◌, ◌≤◌}
+use Prim.Native.Nat.{ℕ, zero, suc, ◌<◌, ◌≤◌}
 use mathlib.Core.Path.{◌≡◌, refl, sym, ◌∙◌, ap}
 use mathlib.Core.Bool.{Bool, true, false, ◌&&◌}
 use mathlib.Core.List.{List, [], ◌∷◌, Memᴰ}
 use native.Mathlib.Decide.{dec_le}
 use native.Mathlib.Omega.{arith}
-use native.Mathlib.Numerals.{add-one}
 use native.Mathlib.Nat.{not-suc-le-zero}
 use lib.ListN.{length, get_or, take, replicate}
 use Rattle.rules.specs.Tests.{each, any_of, every}
-use Rattle.rules.proofs.Tests.{and_both, both_ways, each_at, each_all, or_left, or_right}
+use Rattle.rules.proofs.Tests.{both_ways, each_at, each_all, or_left, or_right}
 use Rattle.rules.proofs.Local.{bool_ext}
 
 -- zeros

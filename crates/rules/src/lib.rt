@@ -15,7 +15,8 @@ pub const CONDITIONS: u32 = 9;
 
 pub const ALL_CONDITIONS: u16 = 511;
 
-// How an activity is answered: placed with its start, or refused with its set of conditions.
+// How an activity is answered: placed with its start, or refused with its set of conditions. An enum of these two is
+// document 01's form.
 #[derive(Clone, Copy)]
 pub enum Outcome {
     Placed(u32),
@@ -61,8 +62,8 @@ impl From<Fault> for u32 {
     }
 }
 
-// A refusal: its fault, and the line that has it. The line is 0 where it is no line's, and no Option: document 01
-// gives such a refusal line 0, which is printed and packed as that number.
+// A refusal: its fault, and the line that has it. Line 0 is document 01's number for a refusal of no line, and is printed
+// and packed, so it is no Option.
 #[derive(Clone, Copy)]
 pub struct Refusal {
     pub fault: Fault,
