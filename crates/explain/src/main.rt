@@ -5,16 +5,17 @@ ghost use Rattle.std.specs.Prelude.{◌≤◌};
 use input::run;
 use std::io;
 use std::process::ExitCode;
-use wording::writing::PART;
 
-// More parts than a text can have.
+// How many bytes of the text are printed at a time, and more of such parts than a text can have.
+const PART: usize = 262144;
+
 const PARTS: usize = 1024;
 
 // Prints a part of the text, and answers whether another may follow.
 fn print_part(rt: &impl Print, bytes: &[u8], part: usize) -> io::Result<bool>
     requires { part ≤ 1024 }
 {
-    let out = explanation::explain(bytes, part * PART);
+    let out = explanation::explain::<PART>(bytes, part * PART);
     rt.write_all(out.as_slice())?;
     Ok(out.as_slice().len() == PART)
 }

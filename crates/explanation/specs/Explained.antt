@@ -12,6 +12,6 @@ explained_as s (refused r) = refused_text s r
 unfoldable pub explained : List ℕ → List ℕ
 explained s = explained_as s (reading s)
 
--- the call: the part of the text from byte `from` on is answered
-abbrev pub ExplainCalled : List ℕ → ℕ → Written → Type 0
-ExplainCalled s from r = r.bytes ≡ part from (explained s)
+-- the call: the part of the text from byte `from` on that fits the room is answered
+abbrev pub ExplainCalled : ℕ → List ℕ → ℕ → Written → Type 0
+ExplainCalled room s from r = r.bytes ≡ part from room (explained s)

@@ -18,8 +18,8 @@ use wording::writing::Part;
 
 // Writes the text of an accepted plan.
 #[tactic(auto, using(std::proofs::lemmas::Grind::common_steps, wording::proofs::Pieces::more_then), unfolding(crate::specs::Places::accepted_text))]
-fn put_accepted(out: &mut Part, plan: &Plan)
-    ensures { out.new ≡ with_more out.old (accepted_text (plan_view plan.now)) }
+fn put_accepted<const N: usize>(out: &mut Part<N>, plan: &Plan)
+    ensures { out.new ≡ with_more N out.old (accepted_text (plan_view plan.now)) }
 {
     out.push(b"accepted, activities: ");
     out.push_number(plan.count() as u64);
@@ -27,9 +27,9 @@ fn put_accepted(out: &mut Part, plan: &Plan)
     put_places(out, plan);
 }
 
-// The part of a plan file's text from byte `from` on.
-pub fn explain(bytes: &[u8], from: usize) -> Part
-    ensures { ExplainCalled bytes.now from result }
+// The part of a plan file's text from byte `from` on, as far as it fits.
+pub fn explain<const N: usize>(bytes: &[u8], from: usize) -> Part<N>
+    ensures { ExplainCalled N bytes.now from result }
 {
     let mut out = Part::new(from);
     match plan::read(bytes) {

@@ -7,15 +7,22 @@ ghost use Rattle.explanation.specs.Places.{place_text, place_texts};
 ghost use Rattle.wording.specs.Writing.{with_more};
 
 use crate::outcomes::put_outcome;
+use crate::runs::Table;
 use placing::{Placing, place_next, start_count_at};
 use plan::Plan;
 use rules::{Outcome, TICKS};
 use wording::writing::Part;
 
 // Writes what came of the activity at place k, by its table of sets.
-fn put_place(out: &mut Part, plan: &Plan, k: usize, table: &[u16; TICKS], answer: Outcome)
+fn put_place<const N: usize>(
+    out: &mut Part<N>,
+    plan: &Plan,
+    k: usize,
+    table: &[u16; TICKS],
+    answer: Outcome,
+)
     requires { (k < length (plan_view plan.now).activities) × TableAt plan.now k table.now × (answer ≡ outcome (plan_view plan.now) k) }
-    ensures { out.new ≡ with_more out.old (place_text (plan_view plan.now) k) }
+    ensures { out.new ≡ with_more N out.old (place_text (plan_view plan.now) k) }
 {
     let activity = plan.activity(k);
     let count = start_count_at(plan, k);
@@ -24,12 +31,15 @@ fn put_place(out: &mut Part, plan: &Plan, k: usize, table: &[u16; TICKS], answer
     out.push(b", activity ");
     out.push_number(u64::from(activity.id));
     out.push(b": ");
-    put_outcome(out, &table[..count as usize], activity.duration, answer);
+    let table = Table {
+        sets: &table[..count as usize],
+    };
+    put_outcome(out, &table, activity.duration, answer);
 }
 
-// Writes the text of every place.
-pub fn put_places(out: &mut Part, plan: &Plan)
-    ensures { out.new ≡ with_more out.old (place_texts (plan_view plan.now) (length (plan_view plan.now).activities)) }
+// Writes the text of every place. By place, which `place_next` takes and which is written.
+pub fn put_places<const N: usize>(out: &mut Part<N>, plan: &Plan)
+    ensures { out.new ≡ with_more N out.old (place_texts (plan_view plan.now) (length (plan_view plan.now).activities)) }
 {
     let mut table = [0; TICKS];
     let mut placing = Placing::new();

@@ -1,5 +1,5 @@
 // The runs of starts that meet a set of conditions.
-ghost use Rattle.std.specs.Prelude.{◌≡◌, ◌≤◌, length};
+ghost use Rattle.std.specs.Prelude.{◌≡◌, ◌<◌, ◌^◌, length};
 ghost use Rattle.explanation.specs.Places.{run_text, run_texts, runs_text, runs_line};
 ghost use Rattle.explanation.specs.Tabled.{runs_in};
 ghost use Rattle.wording.specs.Writing.{with_more};
@@ -8,10 +8,17 @@ use rules::Interval;
 use schedule::runs::{Runs, count_runs};
 use wording::writing::Part;
 
+// The sets of conditions that a place's starts meet, as many as `Runs` goes through.
+#[derive(Drop)]
+pub struct Table<'a> {
+    pub sets: &'a [u16],
+    ghost few: { length sets.now < 2 ^ 32 },
+}
+
 // Writes a run of starts.
 #[tactic(auto, using(std::proofs::lemmas::Grind::common_steps, wording::proofs::Pieces::more_then), unfolding(crate::specs::Places::run_text))]
-fn put_run(out: &mut Part, run: Interval)
-    ensures { out.new ≡ with_more out.old (run_text run) }
+fn put_run<const N: usize>(out: &mut Part<N>, run: Interval)
+    ensures { out.new ≡ with_more N out.old (run_text run) }
 {
     out.push(b" ");
     out.push_number(u64::from(run.first));
@@ -21,35 +28,32 @@ fn put_run(out: &mut Part, run: Interval)
 
 // Writes the runs of starts that meet the set.
 #[tactic(auto, using(std::proofs::lemmas::Grind::common_steps, wording::proofs::Pieces::more_then, wording::proofs::Pieces::more_none), unfolding(crate::specs::Places::run_texts))]
-fn put_each_run(out: &mut Part, sets: &[u16], set: u16)
-    requires { length sets.now ≤ 4096 }
-    ensures { out.new ≡ with_more out.old (run_texts (runs_in sets.now set)) }
+fn put_each_run<const N: usize>(out: &mut Part<N>, table: &Table, set: u16)
+    ensures { out.new ≡ with_more N out.old (run_texts (runs_in table.now.sets.now set)) }
 {
-    for run in Runs::new(sets, set) {
+    for run in Runs::new(table.sets, set) {
         put_run(out, run);
     }
 }
 
 // Writes the runs of starts that meet the set, or that there is none.
 #[tactic(auto, unfolding(crate::specs::Places::runs_text))]
-fn put_runs(out: &mut Part, sets: &[u16], set: u16)
-    requires { length sets.now ≤ 4096 }
-    ensures { out.new ≡ with_more out.old (runs_text (runs_in sets.now set)) }
+fn put_runs<const N: usize>(out: &mut Part<N>, table: &Table, set: u16)
+    ensures { out.new ≡ with_more N out.old (runs_text (runs_in table.now.sets.now set)) }
 {
-    if count_runs(sets, set) == 0 {
+    if count_runs(table.sets, set) == 0 {
         out.push(b" none");
     } else {
-        put_each_run(out, sets, set);
+        put_each_run(out, table, set);
     }
 }
 
 // Writes a line of the runs of starts that meet the set, behind these words.
 #[tactic(auto, using(std::proofs::lemmas::Grind::common_steps, wording::proofs::Pieces::more_then), unfolding(crate::specs::Places::runs_line))]
-pub fn put_runs_line(out: &mut Part, words: &[u8], sets: &[u16], set: u16)
-    requires { length sets.now ≤ 4096 }
-    ensures { out.new ≡ with_more out.old (runs_line words.now (runs_in sets.now set)) }
+pub fn put_runs_line<const N: usize>(out: &mut Part<N>, words: &[u8], table: &Table, set: u16)
+    ensures { out.new ≡ with_more N out.old (runs_line words.now (runs_in table.now.sets.now set)) }
 {
     out.push(words);
-    put_runs(out, sets, set);
+    put_runs(out, table, set);
     out.push(b"\n");
 }

@@ -30,8 +30,8 @@ fn escape_of(b: u8) -> Option<u8>
 
 // Writes a byte as it is shown.
 #[tactic(auto, unfolding(crate::specs::Shown::shown_byte, crate::specs::Shown::is_printed, crate::specs::Shown::escape_in))]
-fn put_shown_byte(out: &mut Part, b: u8)
-    ensures { out.new ≡ with_more out.old (shown_byte b) }
+fn put_shown_byte<const N: usize>(out: &mut Part<N>, b: u8)
+    ensures { out.new ≡ with_more N out.old (shown_byte b) }
 {
     if let Some(letter) = escape_of(b) {
         return out.push(&[b'\\', letter]);
@@ -43,8 +43,8 @@ fn put_shown_byte(out: &mut Part, b: u8)
 }
 
 // Writes bytes as they are shown.
-pub fn put_shown(out: &mut Part, s: &[u8])
-    ensures { out.new ≡ with_more out.old (shown s.now) }
+pub fn put_shown<const N: usize>(out: &mut Part<N>, s: &[u8])
+    ensures { out.new ≡ with_more N out.old (shown s.now) }
 {
     for b in s {
         put_shown_byte(out, *b);

@@ -29,7 +29,7 @@ pub fn refusal_words(fault: Fault) -> &'static [u8]
     }
 }
 
-// What the condition of this number asks.
+// What the condition of this number asks. By its number, as a set has it for its bit: an enum would be the nine once more.
 #[tactic(auto, unfolding(crate::specs::Words::condition_words))]
 pub fn condition_words(condition: u32) -> &'static [u8]
     ensures { result.now ≡ condition_words condition }
@@ -49,7 +49,8 @@ pub fn condition_words(condition: u32) -> &'static [u8]
     }
 }
 
-// What this field of the first line must be.
+// What this field of the first line must be. By its number, which is its place in the line and is written: an enum would be
+// these twelve once more.
 #[tactic(auto, unfolding(crate::specs::Words::plan_field_words))]
 fn plan_field_words(field: u32) -> &'static [u8]
     ensures { result.now ≡ plan_field_words field }
@@ -71,7 +72,7 @@ fn plan_field_words(field: u32) -> &'static [u8]
     }
 }
 
-// What this field of an activity's line must be.
+// What this field of an activity's line must be, by its number in the same way.
 #[tactic(auto, unfolding(crate::specs::Words::act_field_words))]
 fn act_field_words(field: u32) -> &'static [u8]
     ensures { result.now ≡ act_field_words field }
@@ -97,7 +98,7 @@ fn act_field_words(field: u32) -> &'static [u8]
     }
 }
 
-// What this field of a line must be.
+// What this field of a line must be. By the line's number, which says what it is: line 1 alone is the plan's.
 #[tactic(auto, unfolding(crate::specs::Words::field_words))]
 pub fn field_words(line: u32, field: u32) -> &'static [u8]
     ensures { result.now ≡ field_words line field }
@@ -109,7 +110,7 @@ pub fn field_words(line: u32, field: u32) -> &'static [u8]
     }
 }
 
-// What a line must be.
+// What a line must be, by its number in the same way.
 #[tactic(auto, unfolding(crate::specs::Words::line_words, crate::specs::Words::plan_line_words, crate::specs::Words::act_line_words))]
 pub fn line_words(line: u32) -> &'static [u8]
     ensures { result.now ≡ line_words line }

@@ -10,7 +10,8 @@ use line::fields::number_in;
 use text::field::field_at;
 use text::list::{Form, read_list};
 
-// The number from lo to hi that field k of the line l is, or 0.
+// The number from lo to hi that field k of the line l is, or 0: by no capacity the fields behind it are judged as by 0
+// (`plan_fields`), so that an Option would be made 0 at each use.
 #[tactic(auto, unfolding(crate::specs::FirstWrong::read_number, rules::specs::Refusals::read_as))]
 fn number_at(l: &[u8], k: usize, lo: u32, hi: u32) -> u32
     ensures { result ≡ read_number (number_field lo hi (field (split_on 9 l.now) k)) }
@@ -97,7 +98,7 @@ pub fn wrong_in_act(l: &[u8], horizon: u32) -> Option<u32>
     ])
 }
 
-// The horizon that a first line says, or 0.
+// The horizon that a first line says, or 0, as `number_at`.
 pub fn horizon_in(l: &[u8]) -> u32
     ensures { result ≡ read_number (number_field 1 4096 (field (split_on 9 l.now) 1)) }
 {

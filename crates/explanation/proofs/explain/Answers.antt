@@ -11,16 +11,16 @@ use Rattle.explanation.proofs.PlaceTexts.{explained_accepted, explained_refused}
 use Rattle.explanation.proofs.explain.Goals as goal
 
 pub returns-in-Ok : goal.returns-in-Ok
-returns-in-Ok c =
+returns-in-Ok g c =
     let p = c.in-Ok.plan in
     let text = accepted_text (plan_view p) in
-    rw (← c.in-Ok.ensures.bytes, explained_accepted p) (ap (λ (v : Written). v.bytes) (c.put_accepted.ensures ∙ ap (λ (v : Written). with_more v text) c.new-out.ensures) ∙ more_part c.args.from text)
+    rw (← c.in-Ok.ensures.bytes, explained_accepted p) (ap (λ (v : Written). v.bytes) (c.put_accepted.ensures ∙ ap (λ (v : Written). with_more g.row.N v text) c.new-out.ensures) ∙ more_part g.row.N c.args.from text)
 
 pub returns-in-Err : goal.returns-in-Err
-returns-in-Err c =
+returns-in-Err g c =
     let s = c.args.bytes.now in
     let q = c.in-Err.refused in
     let text = refused_text s (refusal_view q) in
     rw (explained_refused s (refusal_view q) (read_as s (Err q) c.in-Err.ensures.value c.in-Err.ensures.bytes)) (
-    ap (λ (v : Written). v.bytes) (c.put_refusal.ensures ∙ ap (λ (v : Written). with_more v text) c.new-out.ensures) ∙ more_part c.args.from text
+    ap (λ (v : Written). v.bytes) (c.put_refusal.ensures ∙ ap (λ (v : Written). with_more g.row.N v text) c.new-out.ensures) ∙ more_part g.row.N c.args.from text
     )

@@ -6,4 +6,4 @@ use Rattle.wording.specs.Writing.{with_more}
 use Rattle.explanation.proofs.outcomes.put_letters.Given as goal
 
 abbrev pub invariant-loop-condition : goal.invariant-loop-condition
-invariant-loop-condition l = l.out ≡ with_more l.initial.out (letter_texts (runs_in l.sets) l.set l.condition)
+invariant-loop-condition g l = l.out ≡ with_more g.row.N l.initial.out (letter_texts (runs_in l.table.sets.now) l.set l.condition)

@@ -7,4 +7,4 @@ use Rattle.wording.specs.Writing.{with_more}
 use Rattle.explanation.proofs.places.put_places.Given as goal
 
 abbrev pub invariant-loop-place : goal.invariant-loop-place
-invariant-loop-place l = PlacedTo l.plan l.place l.placing × (l.out ≡ with_more l.initial.out (place_texts (plan_view l.plan) l.place))
+invariant-loop-place g l = PlacedTo l.plan l.place l.placing × (l.out ≡ with_more g.row.N l.initial.out (place_texts (plan_view l.plan) l.place))

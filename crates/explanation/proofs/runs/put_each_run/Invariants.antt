@@ -5,4 +5,4 @@ use Rattle.wording.specs.Writing.{with_more}
 use Rattle.explanation.proofs.runs.put_each_run.Given as goal
 
 abbrev pub invariant-loop-run : goal.invariant-loop-run
-invariant-loop-run l = with_more l.out (run_texts l.run-iterator) ≡ with_more l.initial.out (run_texts l.initial.run-iterator)
+invariant-loop-run g l = with_more g.row.N l.out (run_texts l.run-iterator) ≡ with_more g.row.N l.initial.out (run_texts l.initial.run-iterator)

@@ -8,8 +8,8 @@ use Rattle.wording.proofs.shown.put_shown.Goals as goal
 
 pub loop-b-init : goal.loop-b-init
 unfolding shown
-loop-b-init c = sym (more_none c.args.out.now)
+loop-b-init g c = sym (more_none g.row.N c.args.out.now)
 
 pub loop-b-preserved : goal.loop-b-preserved
-loop-b-preserved c =
-    c.put_shown_byte.ensures ∙ rw c.loop-b.invariant (more_then c.args.out.now _ _) ∙ ap (with_more c.args.out.now) (sym (shown_next c.args.s.now c.loop-b.b-index c.loop-b-test.true))
+loop-b-preserved g c =
+    c.put_shown_byte.ensures ∙ rw c.loop-b.invariant (more_then g.row.N c.args.out.now _ _) ∙ ap (with_more g.row.N c.args.out.now) (sym (shown_next c.args.s.now c.loop-b.b-index c.loop-b-test.true))

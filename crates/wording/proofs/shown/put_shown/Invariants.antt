@@ -5,4 +5,4 @@ use Rattle.wording.specs.Writing.{with_more}
 use Rattle.wording.proofs.shown.put_shown.Given as goal
 
 abbrev pub invariant-loop-b : goal.invariant-loop-b
-invariant-loop-b l = l.out ≡ with_more l.initial.out (shown (take l.b-index l.s))
+invariant-loop-b g l = l.out ≡ with_more g.row.N l.initial.out (shown (take l.b-index l.s))
