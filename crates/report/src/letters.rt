@@ -15,13 +15,12 @@ fn put_letter(out: &mut Letters, set: u32, c: u32)
     ensures text { out.new ≡ out.old ++ letters_from c (get_or condition_letters c 0 ∷ []) set }
     ensures within { length out.new ≤ length out.old + 1 }
 {
-    let has = sets::has_condition(set, c);
-    if has {
+    if sets::has_condition(set, c) {
         out.push(&[sets::letter(c)]);
     }
 }
 
-// The letters of a set, in order.
+// The letters of a set, in order, by the number of each condition, which is its bit in the set.
 #[tactic(auto, using(crate::proofs::LetterWriting::letters_more))]
 pub fn letters(set: u32) -> Letters
     ensures text { result ≡ letters_of set }

@@ -1,4 +1,4 @@
-// Lines of fields parted by tabs.
+// Lines of fields parted by tabs. Each asks for the room that it takes at most, by which its caller counts.
 ghost use Rattle.std.specs.Prelude.{◌≡◌, [], ◌∷◌, ◌++◌, ◌+◌, ◌≤◌, length};
 ghost use Rattle.rules.specs.Bytes.{bytes};
 ghost use Rattle.rules.specs.Number.{decimal};
@@ -19,8 +19,8 @@ pub const REPORT: usize = 4608;
 pub type Report = Bytes<REPORT>;
 
 // Writes a tab and a word.
-fn put_word(out: &mut Report, word: &[u8])
-    requires { length out.old + 1 + length word.now ≤ REPORT }
+fn put_word<const N: usize>(out: &mut Bytes<N>, word: &[u8])
+    requires { length out.old + 1 + length word.now ≤ N }
     ensures { out.new ≡ out.old ++ 9 ∷ word.now }
 {
     out.push(b"\t");
@@ -28,8 +28,8 @@ fn put_word(out: &mut Report, word: &[u8])
 }
 
 // Writes a tab and a number.
-fn put_field(out: &mut Report, x: u64)
-    requires { length out.old + 21 ≤ REPORT }
+fn put_field<const N: usize>(out: &mut Bytes<N>, x: u64)
+    requires { length out.old + 21 ≤ N }
     ensures text { out.new ≡ out.old ++ 9 ∷ decimal x }
     ensures within { length out.new ≤ length out.old + 21 }
 {
@@ -38,8 +38,8 @@ fn put_field(out: &mut Report, x: u64)
 }
 
 // Writes the line of an activity that is placed.
-fn put_placed(out: &mut Report, id: u64, start: u64, end: u64)
-    requires { length out.old + line_most ≤ REPORT }
+fn put_placed<const N: usize>(out: &mut Bytes<N>, id: u64, start: u64, end: u64)
+    requires { length out.old + line_most ≤ N }
     ensures text { out.new ≡ out.old ++ line_of (decimal id ∷ bytes "placed" ∷ decimal start ∷ decimal end ∷ []) }
     ensures within { length out.new ≤ length out.old + line_most }
 {
@@ -51,8 +51,8 @@ fn put_placed(out: &mut Report, id: u64, start: u64, end: u64)
 }
 
 // Writes the line of an activity that is refused.
-fn put_refused(out: &mut Report, id: u64, set: u32)
-    requires { length out.old + line_most ≤ REPORT }
+fn put_refused<const N: usize>(out: &mut Bytes<N>, id: u64, set: u32)
+    requires { length out.old + line_most ≤ N }
     ensures text { out.new ≡ out.old ++ line_of (decimal id ∷ bytes "refused" ∷ letters_of set ∷ []) }
     ensures within { length out.new ≤ length out.old + line_most }
 {
@@ -64,8 +64,8 @@ fn put_refused(out: &mut Report, id: u64, set: u32)
 
 // Writes the line of an activity of this id and duration.
 #[tactic(auto, unfolding(crate::specs::Lines::outcome_text))]
-pub fn put_outcome(out: &mut Report, id: u32, duration: u32, outcome: Outcome)
-    requires { length out.old + line_most ≤ REPORT }
+pub fn put_outcome<const N: usize>(out: &mut Bytes<N>, id: u32, duration: u32, outcome: Outcome)
+    requires { length out.old + line_most ≤ N }
     ensures text { out.new ≡ out.old ++ outcome_text id duration outcome }
     ensures within { length out.new ≤ length out.old + line_most }
 {
@@ -81,8 +81,14 @@ pub fn put_outcome(out: &mut Report, id: u32, duration: u32, outcome: Outcome)
 
 // Writes the end line.
 #[tactic(auto, unfolding(crate::specs::Lines::end_text, rules::specs::Lines::line_of, rules::specs::Lines::parted, rules::specs::Lines::behind))]
-pub fn put_end(out: &mut Report, placed: u64, refused: u64, charge: u64, volume: u64)
-    requires { length out.old + end_most ≤ REPORT }
+pub fn put_end<const N: usize>(
+    out: &mut Bytes<N>,
+    placed: u64,
+    refused: u64,
+    charge: u64,
+    volume: u64,
+)
+    requires { length out.old + end_most ≤ N }
     ensures text { out.new ≡ out.old ++ end_text placed refused charge volume }
     ensures within { length out.new ≤ length out.old + end_most }
 {
@@ -96,8 +102,8 @@ pub fn put_end(out: &mut Report, placed: u64, refused: u64, charge: u64, volume:
 
 // Writes the line of a refused plan.
 #[tactic(auto, unfolding(crate::specs::Lines::no_text, rules::specs::Lines::line_of, rules::specs::Lines::parted, rules::specs::Lines::behind))]
-pub fn put_no(out: &mut Report, refused: Refusal)
-    requires { length out.old + no_most ≤ REPORT }
+pub fn put_no<const N: usize>(out: &mut Bytes<N>, refused: Refusal)
+    requires { length out.old + no_most ≤ N }
     ensures text { out.new ≡ out.old ++ no_text (number_of refused.fault) refused.line }
     ensures within { length out.new ≤ length out.old + no_most }
 {

@@ -22,9 +22,9 @@ fn put_lines(plan: &Plan, placing: &Placing, out: &mut Report)
     ensures text { out.new ≡ outcome_lines (plan_view plan.now) (length (plan_view plan.now).activities) }
     ensures within { length out.new ≤ length (plan_view plan.now).activities * line_most }
 {
-    for place in 0..plan.count() {
+    for (place, answer) in placing.answers[..plan.count()].iter().enumerate() {
         let activity = plan.activity(place);
-        put_outcome(out, activity.id, activity.duration, placing.answers[place]);
+        put_outcome(out, activity.id, activity.duration, *answer);
     }
 }
 
