@@ -10,7 +10,7 @@ use line::fields::number_in;
 use text::field::field_at;
 use text::list::{Form, read_list};
 
-// The number from lo to hi that field k of the line l is, or 0: by no capacity the fields behind it are judged as by 0
+// The number from lo to hi that field k of the line l is, or 0 where it is none: the fields behind it are judged by 0 then
 // (`plan_fields`), so that an Option would be made 0 at each use.
 #[tactic(auto, unfolding(crate::specs::FirstWrong::read_number, rules::specs::Refusals::read_as))]
 fn number_at(l: &[u8], k: usize, lo: u32, hi: u32) -> u32
@@ -27,7 +27,7 @@ fn is_number(l: &[u8], k: usize, lo: u32, hi: u32) -> bool
     number_in(field_at(l, k), lo, hi).is_ok()
 }
 
-// Whether it is a list of this form, of at most N items.
+// Whether it is a list of this form, of at most N items, as few as `read_list` asks for.
 #[tactic(auto, unfolding(crate::specs::FirstWrong::is_read, rules::specs::Refusals::read_as))]
 fn is_list<const N: usize>(l: &[u8], k: usize, form: Form) -> bool
     requires { N ≤ 32 }
