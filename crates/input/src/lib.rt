@@ -1,8 +1,7 @@
 #![tactic(auto)]
-// The input, read whole, and how a program ends that has trouble.
-ghost use Rattle.std.specs.Prelude.{◌≡◌, ◌≤◌, ◌<◌, IfOk, length, take};
+// The input of the programs, read whole, and the main that they share.
+ghost use Rattle.std.specs.Prelude.{◌≡◌, ◌≤◌, ◌<◌, ℕ, IfOk, Ok, length, take};
 ghost use Rattle.std.specs.Io.KnownBytes.{Consumes, IsAtEnd};
-ghost use Rattle.std.specs.Prelude.{ℕ, Ok};
 ghost use Rattle.std.specs.Fn.{FnOnceReturnsAt};
 ghost use Rattle.std.specs.Process.{exit_status};
 ghost use Rattle.input.specs.Count.{count_of};
