@@ -1,6 +1,6 @@
 // What is drawn in each tick: by one activity and its heater, and by the placed.
 ghost use Rattle.std.specs.Prelude.{◌≡◌, ℕ, ◌+◌, ◌<◌, ◌≤◌, length, get_or};
-ghost use Rattle.placed.specs.Bounds.{TicksBounded, AmountsBounded};
+ghost use Rattle.placed.specs.Bounds.{AmountsBounded};
 ghost use Rattle.charge.specs.Charge.{own_view, row_draw, draw_of, drawn_in};
 
 use crate::own::OwnDraw;
@@ -35,7 +35,7 @@ fn add_draw(draws: &mut [u32], own: OwnDraw)
 // Writes the draws of the placed in each tick over zeros.
 #[tactic(auto, using(crate::proofs::Drawn::drawn_none))]
 pub fn add_placed(header: Header, placed: &Placed, draws: &mut [u32])
-    requires ticks_bounded { TicksBounded placed.now.rows placed.now.count × AmountsBounded placed.now.rows placed.now.count × (header.heater ≤ 1000000) }
+    requires amounts_bounded { AmountsBounded placed.now.rows placed.now.count × (header.heater ≤ 1000000) }
     requires draws_len { (length draws.old ≡ 4096) × ((t : ℕ) → get_or draws.old t 0 ≡ 0) }
     ensures { (t : ℕ) → get_or draws.new t 0 ≡ drawn_in header placed.now.rows placed.now.count t }
 {

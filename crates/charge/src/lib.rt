@@ -9,7 +9,7 @@ ghost use Rattle.std.specs.Prelude.{◌≡◌, true, pos};
 ghost use Rattle.rules.specs.WellFormed.{HeaderFormed};
 ghost use Rattle.rules.specs.Reading.{out_of_reach};
 ghost use Rattle.activity.specs.View.{header_view};
-ghost use Rattle.placed.specs.Bounds.{TicksBounded, AmountsBounded};
+ghost use Rattle.placed.specs.Bounds.{AmountsBounded};
 ghost use Rattle.charge.specs.Charge.{drawn_in, charge_by, kept_by};
 
 use activity::Header;
@@ -21,7 +21,7 @@ use sums::Drawn;
 
 // The charge at the horizon with the placed alone; it is at least the floor.
 pub fn last_charge(header: Header, placed: &Placed) -> u64
-    requires ticks_bounded { TicksBounded placed.now.rows placed.now.count × AmountsBounded placed.now.rows placed.now.count }
+    requires amounts_bounded { AmountsBounded placed.now.rows placed.now.count }
     requires header_formed { HeaderFormed (header_view header) × (kept_by header (drawn_in header placed.now.rows placed.now.count) ≡ true) }
     ensures { pos result ≡ charge_by header (drawn_in header placed.now.rows placed.now.count) header.horizon }
 {

@@ -29,9 +29,9 @@ use Rattle.sets.proofs.Marking.{same_marked}
 use Rattle.placed.specs.declared.row.Row.{Row}
 use Rattle.placed.specs.Tables.{engines_at, peak_at, draw_at, volume_at, volumes_in}
 use Rattle.placed.specs.Held.{TicksAt, AmountsAt, Rows}
-use Rattle.placed.specs.Bounds.{TicksBounded, AmountsBounded, SettingsBounded}
+use Rattle.placed.specs.Bounds.{AmountsBounded}
 use Rattle.placed.proofs.Rows.{rows_map, volumes_are}
-use Rattle.placed.proofs.Bounding.{ticks_bounded_lem, amounts_beside, settings_beside}
+use Rattle.placed.proofs.Bounding.{amounts_beside}
 use Rattle.load.specs.Clear.{fits, clear_for}
 use Rattle.load.specs.Loads.{load_in, sharing}
 use Rattle.load.proofs.Meets.{units_meet, engines_meet, peaks_meet}
@@ -54,9 +54,7 @@ picked h placed a c k by n old new test l e b f m =
 -- what the tests need
 pub record Needs (h : HeaderStruct) (a : ActivityStruct) (rows : List Row) (n count : ℕ) : Type 0 where
   pub few : n < 64
-  pub ticks : TicksBounded rows n
   pub amounts : AmountsBounded rows (n + 1)
-  pub settings : SettingsBounded rows (n + 1)
   pub header : HeaderFormed (header_view h)
   pub kept : kept_by h (drawn_in h rows n) ≡ true
   -- the candidate lasts at least a tick, and its last start ends with the plan
@@ -66,14 +64,8 @@ pub record Needs (h : HeaderStruct) (a : ActivityStruct) (rows : List Row) (n co
   pub markable : (by : ℕ) (table : List ℕ) → by ≤ all_conditions → count ≤ length table → ((k : ℕ) → get_or table k 0 ≤ all_conditions) → Markable by count table
 
 module _ (h : HeaderStruct) (a : ActivityStruct) (rows : List Row) (n count : ℕ) (e : count ≡ starts (header_view h) (activity_view a)) (placed : Schedule) (B : Beside h a rows n placed) where
-  ticks_ok : TicksBounded rows n
-  ticks_ok = ticks_bounded_lem (header_view h) rows n placed B.held B.reached (omega (arith, B.few))
-
   amounts_ok : AmountsBounded rows (n + 1)
   amounts_ok = amounts_beside (header_view h) rows n placed B.held B.reached (activity_view a) B.row B.candidate
-
-  settings_ok : SettingsBounded rows (n + 1)
-  settings_ok = settings_beside (header_view h) rows n placed B.held B.reached (activity_view a) B.row B.candidate
 
   lasts : 1 ≤ a.duration
   unfolding activity_view
@@ -97,7 +89,7 @@ module _ (h : HeaderStruct) (a : ActivityStruct) (rows : List Row) (n count : �
   kept_ok = charge_kept_lem h rows n placed charged ∙ B.reached.kept.charge
 
   pub needs : Needs h a rows n count
-  needs = record { few = B.few; ticks = ticks_ok; amounts = amounts_ok; settings = settings_ok; header = B.reached.header; kept = kept_ok; lasts = lasts; count_few = count_few; count_end = count_end; markable = markable }
+  needs = record { few = B.few; amounts = amounts_ok; header = B.reached.header; kept = kept_ok; lasts = lasts; count_few = count_few; count_end = count_end; markable = markable }
 
   -- ---- each test is its condition
   ends : (s : ℕ) → s < count → s + (activity_view a).duration ≤ (header_view h).horizon

@@ -1,6 +1,6 @@
 -- The load of each tick, filled in row by row.
 -- Assumes nothing.
-use Prim.Native.Nat.{ℕ, zero, suc, ◌+◌, ◌<◌}
+use Prim.Native.Nat.{ℕ, ◌+◌}
 use mathlib.Core.Path.{◌≡◌, refl, sym, ◌∙◌, ap}
 use mathlib.Core.Bool.{cond, ◌&&◌}
 use mathlib.Core.List.{List}
@@ -15,31 +15,24 @@ use Rattle.rules.proofs.Lists.{each_same}
 use Rattle.load.specs.Loads.{load_in, Loaded}
 use Rattle.load.specs.Clear.{fits, clear_for}
 
-module _ (rows : List Row) where
-  -- weights that agree on the rows make the same load
-  pub load_same : (v w : ℕ → ℕ) (n t : ℕ) → ((i : ℕ) → i < n → v i ≡ w i) → load_in rows v n t ≡ load_in rows w n t
+module _ (rows : List Row) (weights : ℕ → ℕ) where
+  -- no row, and one row more
+  load_none : (t : ℕ) → load_in rows weights 0 t ≡ 0
   unfolding load_in
-  load_same v w zero t f = refl
-  load_same v w (suc n) t f = rw (f n (omega arith), load_same v w n t (λ i k. f i (omega arith)))
+  load_none t = refl
 
-  module _ (weights : ℕ → ℕ) where
-    -- no row, and one row more
-    load_none : (t : ℕ) → load_in rows weights 0 t ≡ 0
-    unfolding load_in
-    load_none t = refl
+  load_more : (n t : ℕ) → load_in rows weights (n + 1) t ≡ cond (leb (start_at rows n) t && ltb t (end_at rows n)) (weights n) 0 + load_in rows weights n t
+  unfolding load_in
+  load_more n t = rw add-one
 
-    load_more : (n t : ℕ) → load_in rows weights (n + 1) t ≡ cond (leb (start_at rows n) t && ltb t (end_at rows n)) (weights n) 0 + load_in rows weights n t
-    unfolding load_in
-    load_more n t = rw add-one
+  pub loaded_none : (loads : List ℕ) → length loads ≡ 4096 → ((t : ℕ) → get_or loads t 0 ≡ 0) → Loaded rows weights 0 loads
+  loaded_none loads l z = record { size = l; sum = λ t. z t ∙ sym (load_none t) }
 
-    pub loaded_none : (loads : List ℕ) → length loads ≡ 4096 → ((t : ℕ) → get_or loads t 0 ≡ 0) → Loaded rows weights 0 loads
-    loaded_none loads l z = record { size = l; sum = λ t. z t ∙ sym (load_none t) }
-
-    pub loaded_more : (n from to by : ℕ) (loads next : List ℕ) → Loaded rows weights n loads → from ≡ start_at rows n → to ≡ end_at rows n → by ≡ weights n → Raised from to by loads next → Loaded rows weights (n + 1) next
-    loaded_more n from to by loads next f p q w r = record {
-      size = r.size ∙ f.size;
-      sum = λ t. rw (load_more n t, ← p, ← q, ← w) (omega (arith, r.at t, f.sum t));
-    }
+  pub loaded_more : (n from to by : ℕ) (loads next : List ℕ) → Loaded rows weights n loads → from ≡ start_at rows n → to ≡ end_at rows n → by ≡ weights n → Raised from to by loads next → Loaded rows weights (n + 1) next
+  loaded_more n from to by loads next f p q w r = record {
+    size = r.size ∙ f.size;
+    sum = λ t. rw (load_more n t, ← p, ← q, ← w) (omega (arith, r.at t, f.sum t));
+  }
 
 -- loads that agree have the same clear starts
 pub clear_same : (f g : ℕ → ℕ) (weight limit d s : ℕ) → ((t : ℕ) → f t ≡ g t) → clear_for (fits f weight limit) d s ≡ clear_for (fits g weight limit) d s

@@ -7,7 +7,7 @@ mod sharing;
 ghost use Rattle.std.specs.Prelude.{ℕ, ◌+◌, ◌<◌, ◌≤◌};
 ghost use Rattle.sets.specs.Table.{Marked, Markable};
 ghost use Rattle.placed.specs.Tables.{engines_at, peak_at};
-ghost use Rattle.placed.specs.Bounds.{TicksBounded, AmountsBounded};
+ghost use Rattle.placed.specs.Bounds.{AmountsBounded};
 ghost use Rattle.load.specs.Loads.{load_in, sharing, Weighs, WeighsLittle};
 ghost use Rattle.load.specs.Clear.{clear_for, fits};
 
@@ -27,7 +27,6 @@ fn mark_load<W: Fn(&Row) -> u32>(
 )
     requires callable { W.IsAlwaysCallable weigh }
     requires weighs { WeighsLittle (W.post weigh) placed.now.rows placed.now.count }
-    requires ticks_bounded { TicksBounded placed.now.rows placed.now.count }
     requires le_duration { (1 ≤ duration) × (count + duration ≤ 4097) × Markable by count table.old }
     ensures { (weights : ℕ → ℕ) → Weighs (W.post weigh) placed.now.rows placed.now.count weights → Marked (clear_for (fits (load_in placed.now.rows weights placed.now.count) weight limit) duration) by count table.old table.new }
 {
@@ -38,7 +37,7 @@ fn mark_load<W: Fn(&Row) -> u32>(
 
 // Marks the starts that meet U: no tick of the candidate is held by one that shares a unit.
 pub fn mark_units(placed: &Placed, duration: u32, count: u32, by: u16, table: &mut [u16])
-    requires n_bound { (placed.now.count < 64) × TicksBounded placed.now.rows placed.now.count }
+    requires n_bound { placed.now.count < 64 }
     requires le_duration { (1 ≤ duration) × (count + duration ≤ 4097) × Markable by count table.old }
     ensures { Marked (clear_for (fits (load_in placed.now.rows (sharing placed.now.rows placed.now.count) placed.now.count) 0 0) duration) by count table.old table.new }
 {
@@ -64,7 +63,7 @@ pub fn mark_engines(
     by: u16,
     table: &mut [u16],
 )
-    requires n_bound { (placed.now.count < 64) × TicksBounded placed.now.rows placed.now.count × AmountsBounded placed.now.rows (placed.now.count + 1) }
+    requires n_bound { (placed.now.count < 64) × AmountsBounded placed.now.rows (placed.now.count + 1) }
     requires le_duration { (1 ≤ duration) × (count + duration ≤ 4097) × Markable by count table.old }
     ensures { Marked (clear_for (fits (load_in placed.now.rows (engines_at placed.now.rows) placed.now.count) (engines_at placed.now.rows placed.now.count) limit) duration) by count table.old table.new }
 {
@@ -90,7 +89,7 @@ pub fn mark_peaks(
     by: u16,
     table: &mut [u16],
 )
-    requires n_bound { (placed.now.count < 64) × TicksBounded placed.now.rows placed.now.count × AmountsBounded placed.now.rows (placed.now.count + 1) }
+    requires n_bound { (placed.now.count < 64) × AmountsBounded placed.now.rows (placed.now.count + 1) }
     requires le_duration { (1 ≤ duration) × (count + duration ≤ 4097) × Markable by count table.old }
     ensures { Marked (clear_for (fits (load_in placed.now.rows (peak_at placed.now.rows) placed.now.count) (peak_at placed.now.rows placed.now.count) limit) duration) by count table.old table.new }
 {

@@ -1,6 +1,5 @@
 // The load of the placed in each tick.
 ghost use Rattle.std.specs.Prelude.{◌≡◌, ℕ, length, get_or};
-ghost use Rattle.placed.specs.Bounds.{TicksBounded};
 ghost use Rattle.load.specs.Loads.{Weighs, WeighsLittle, Loaded};
 
 use placed::{Placed, Row, raise_ticks};
@@ -9,7 +8,6 @@ use placed::{Placed, Row, raise_ticks};
 pub fn fill_loads<W: Fn(&Row) -> u32>(placed: &Placed, weigh: W, loads: &mut [u32])
     requires callable { W.IsAlwaysCallable weigh }
     requires weighs { WeighsLittle (W.post weigh) placed.now.rows placed.now.count }
-    requires ticks_bounded { TicksBounded placed.now.rows placed.now.count }
     requires loads_len { (length loads.old ≡ 4096) × ((t : ℕ) → get_or loads.old t 0 ≡ 0) }
     ensures { (weights : ℕ → ℕ) → Weighs (W.post weigh) placed.now.rows placed.now.count weights → Loaded placed.now.rows weights placed.now.count loads.new }
 {

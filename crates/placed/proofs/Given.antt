@@ -1,12 +1,12 @@
 -- What settings give a variable, and a row's needs, by an activity's items.
 -- Assumes nothing.
-use Prim.Native.Nat.{ℕ, suc, ◌+◌, ◌<◌, ◌≤◌}
-use mathlib.Core.Bool.{Bool, false, cond, ◌||◌}
+use Prim.Native.Nat.{ℕ, suc, ◌<◌, ◌≤◌}
+use mathlib.Core.Bool.{Bool, false, ◌||◌}
 use mathlib.Core.Path.{◌≡◌, refl, sym, ap, ◌∙◌}
 use mathlib.Core.List.{List, [], ◌∷◌, map}
 use mathlib.Core.Option.{none, some}
 use native.Mathlib.Omega.{arith}
-use lib.Dec.{ltb, eqb}
+use lib.Dec.{eqb}
 use lib.ListN.{length, get_or, drop, drop_of_length-le}
 use lib.Seq.{drop-cons}
 use borrow.Author.Tests.{eq-eqb, ne_eqb}
@@ -18,8 +18,6 @@ use Rattle.rules.specs.MeetsS.{given}
 use Rattle.rules.proofs.ListAt.{at_mem}
 use Rattle.rules.specs.Tests.{any_of}
 use Rattle.activity.specs.View.{setting_of, number_of}
-use Rattle.placed.specs.declared.row.Need.{Need}
-use Rattle.placed.specs.Tables.{no_need}
 use Rattle.placed.specs.Held.{UnitsSay}
 
 abbrev pub no_item : Item
@@ -43,15 +41,6 @@ given_later xs v i l f = rw (drop-cons xs i no_item l) (rw (ne_eqb _ _ f) refl)
 pub given_none : (xs : List Item) (v i : ℕ) → length xs ≤ i → given (map setting_of (drop i xs)) v ≡ none
 unfolding given
 given_none xs v i l = rw (drop_of_length-le xs l) refl
-
--- ---- the four needs
--- an item as a need
-abbrev pub need_of : Item → Need
-need_of item = record { variable = item.first; code = item.second + 1 }
-
--- the first n items stand as needs, the others of the four as none
-abbrev pub NeedsPut : List Item → ℕ → List Need → Type 0
-NeedsPut xs n rows = (j : ℕ) → j < 4 → get_or rows j no_need ≡ cond (ltb j n) (need_of (get_or xs j no_item)) no_need
 
 -- ---- a unit among an activity's
 pub any_number : (p : ℕ → Bool) (xs : List Item) → any_of p (map number_of xs) ≡ list_any (λ x. p x.first) xs

@@ -1,18 +1,21 @@
 -- What is known of the rows, by place and by entry.
 -- Assumes nothing.
-use Prim.Native.Nat.{ℕ, zero, suc, ◌+◌, ◌<◌}
-use mathlib.Core.Path.{◌≡◌, refl, sym, ap, subst}
+use Prim.Native.Nat.{ℕ, zero, suc, ◌+◌, ◌<◌, ◌≤◌}
+use mathlib.Core.Path.{◌≡◌, refl, sym, ap, subst, ◌∙◌}
 use mathlib.Core.List.{List, [], ◌∷◌, Memᴰ}
 use native.Mathlib.Omega.{arith}
 use native.Mathlib.Nat.{not-suc-le-zero}
 use native.Mathlib.Numerals.{add-one}
-use Rattle.std.proofs.Common.{get_or-take}
+use Rattle.std.proofs.Common.{get_or, get_or-take}
+use Rattle.std.proofs.lemmas.List.{get_or_default}
+use Rattle.std.specs.Prelude.{sum_by}
+use Rattle.std.proofs.lemmas.List.Sums.{sum_by_more}
 use lib.ListN.{length, take}
 use Rattle.rules.specs.Plan.{Entry, Schedule}
 use Rattle.rules.specs.Tests.{total}
 use Rattle.rules.specs.MeetsV.{total_volume}
 use Rattle.rules.proofs.Tests.{last_or}
-use Rattle.placed.specs.Tables.{no_row, row_in, volume_at, volumes_in}
+use Rattle.placed.specs.Tables.{no_row, row_in, volumes_in}
 use Rattle.placed.specs.declared.row.Row.{Row}
 use Rattle.placed.specs.Held.{AmountsAt, Rows}
 
@@ -62,9 +65,10 @@ unfolding Rows
 rows_none P = tt
 
 -- ---- sums over the rows
-pub volumes_more : (rows : List Row) (n : ℕ) → volumes_in rows (n + 1) ≡ volume_at rows n + volumes_in rows n
+pub volumes_taken : (rows : List Row) (n : ℕ) → n ≤ length rows → volumes_in rows n ≡ sum_by (λ (row : Row). row.volume) (take n rows)
 unfolding volumes_in
-volumes_more rows n = rw add-one
+volumes_taken rows zero l = refl
+volumes_taken rows (suc n) l = omega (arith, volumes_taken rows n (omega arith), simp add-one at (sum_by_more (λ (row : Row). row.volume) rows n no_row l))
 
 -- the sum over the rows is that over the schedule
 pub volumes_are : (rows : List Row) (n : ℕ) (placed : Schedule) → Rows (λ i e. AmountsAt rows i e.activity) n placed → volumes_in rows n ≡ total_volume placed
@@ -75,5 +79,5 @@ volumes_are rows (suc n) [] r = elim r [ ]
 volumes_are rows (suc n) (e ∷ placed) r = rw (r.0.volume, volumes_are rows n placed r.1)
 
 -- a row of those taken
-pub row_taken : (rows : List Row) (n i : ℕ) → i < n → row_in (take n rows) i ≡ row_in rows i
-row_taken rows n i k = get_or-take n rows i no_row k
+pub row_taken : (rows xs : List Row) (n i : ℕ) (d : Row) → xs ≡ take n rows → length xs ≡ n → i < n → get_or xs i d ≡ row_in rows i
+row_taken rows xs n i d e l k = get_or_default xs i d no_row (omega (arith, l)) ∙ ap (λ (ys : List Row). row_in ys i) e ∙ get_or-take n rows i no_row k

@@ -1,6 +1,6 @@
 -- What the loops over the rows need of their numbers.
 use Rattle.std.specs.Prelude.{ℕ, ◌<◌, ◌≤◌, List}
-use Rattle.placed.specs.Tables.{heat_at, start_at, end_at, engines_at, peak_at, draw_at, need_variable_at, need_code_at}
+use Rattle.placed.specs.Tables.{heat_at, start_at, end_at, engines_at, peak_at, draw_at}
 use Rattle.placed.specs.declared.row.Row.{Row}
 
 -- a tick past every end
@@ -19,8 +19,3 @@ pub record AmountsBounded (rows : List Row) (n : ℕ) : Type 0 where
   pub engines : (i : ℕ) → i < n → engines_at rows i ≤ 1000000
   pub peak : (i : ℕ) → i < n → peak_at rows i ≤ 1000000
   pub draw : (i : ℕ) → i < n → draw_at rows i ≤ 1000000
-
--- the needs of the first n rows are of the eight variables, with values to 255
-pub record SettingsBounded (rows : List Row) (n : ℕ) : Type 0 where
-  pub variables : (i j : ℕ) → i < n → j < 4 → need_variable_at rows i j < 8
-  pub codes : (i j : ℕ) → i < n → j < 4 → need_code_at rows i j ≤ 256

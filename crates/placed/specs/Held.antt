@@ -9,7 +9,7 @@ use Rattle.rules.specs.MeetsS.{given}
 use Rattle.rules.specs.WellFormed.{HeaderFormed, ActivityFormed}
 use Rattle.rules.specs.Kept.{Kept}
 use Rattle.placed.specs.Tables.{no_need, row_in}
-use Rattle.placed.specs.declared.row.Need.{Need}
+use Rattle.placed.specs.declared.need.Need.{Need}
 use Rattle.placed.specs.declared.row.Row.{Row}
 
 -- a value as a code: one more than it, and 0 for none

@@ -1,11 +1,12 @@
 -- What is placed as the code holds it: the entry of each placed activity is a row of numbers, by place. The row behind them is the candidate's, which has no ticks yet.
 use Rattle.std.specs.Prelude.{ℕ, zero, suc, ◌+◌, Bool, false, List, [], get_or}
-use Rattle.placed.specs.declared.row.Need.{Need}
+use lib.Dec.{lit<}
+use Rattle.placed.specs.declared.need.Need.{Need}
 use Rattle.placed.specs.declared.row.Row.{Row}
 
 -- the need and the row of nothing, which stand beyond the end of a list
 abbrev pub no_need : Need
-no_need = record { variable = 0; code = 0 }
+no_need = record { variable = 0; code = 0; known = lit< tt }
 
 abbrev pub no_row : Row
 no_row = record { id = 0; heat = 0; start = 0; end = 0; engines = 0; peak = 0; draw = 0; volume = 0; sets = []; needs = []; units = [] }

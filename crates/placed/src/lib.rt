@@ -1,5 +1,6 @@
 #![tactic(auto)]
 // What is placed: a row of numbers for each entry, by place; the row behind them is the candidate's.
+mod need;
 mod row;
 mod table;
 mod ticks;
@@ -7,6 +8,7 @@ mod ticks;
 // A tick past every end.
 pub const NEVER: u16 = 4097;
 
-pub use row::{Need, Row};
+pub use need::Need;
+pub use row::Row;
 pub use table::Placed;
 pub use ticks::{heater_from, raise_ticks};

@@ -1,21 +1,15 @@
 // A row: an activity, and its ticks once it is placed.
-ghost use Rattle.std.specs.Prelude.{◌≡◌, ℕ, ◌<◌, false, eqb, get_or, map};
+ghost use Rattle.std.specs.Prelude.{◌≡◌, ℕ, suc, ◌<◌, false, cond, eqb, ltb, length, get_or, map};
 ghost use Rattle.std.specs.List.{list_any};
 ghost use Rattle.rules.specs.MeetsS.{given};
 ghost use Rattle.rules.specs.WellFormed.{SettingsFormed};
 ghost use Rattle.activity.specs.View.{setting_of, activity_view};
-ghost use Rattle.placed.specs.Held.{code_of, SetsSay, VariablesSay, CodesSay, ActivitySays};
+ghost use Rattle.placed.specs.Held.{code_of, setting_at, SetsSay, VariablesSay, CodesSay, ActivitySays};
 
+use crate::need::Need;
 use activity::Activity;
 use items::Item;
 use std::array;
-
-// A need: its variable, and the code of its value.
-#[derive(Clone, Copy, Default)]
-pub struct Need {
-    pub variable: u16,
-    pub code: u16,
-}
 
 // An entry: when it heats, starts and ends, what it loads, the codes that its sets give the eight variables, its needs, and
 // which of the 32 units it has. A code is one more than a value, and 0 for none, since condition S compares values and
@@ -56,20 +50,28 @@ fn sets_of(sets: &[Item]) -> [u16; 8]
     array::from_fn(|variable| code_of(sets, variable as u32))
 }
 
+// Need number j, none beyond the last.
+fn need_at(needs: &[Item], j: usize) -> Need
+    requires { SettingsFormed (map setting_of needs.now) }
+    ensures variable { result.variable ≡ (setting_at (map setting_of needs.now) j).variable }
+    ensures code { result.code ≡ cond (ltb j (length (map setting_of needs.now))) (suc (setting_at (map setting_of needs.now) j).value) 0 }
+{
+    if let Some(need) = needs.get(j) {
+        return Need {
+            variable: need.first as u16,
+            code: need.second as u16 + 1,
+        };
+    }
+    Need::default()
+}
+
 // An activity's needs, in four.
 fn needs_of(needs: &[Item]) -> [Need; 4]
     requires { SettingsFormed (map setting_of needs.now) }
     ensures variables { VariablesSay result (map setting_of needs.now) }
     ensures codes { CodesSay result (map setting_of needs.now) }
 {
-    let mut rows = [Need::default(); 4];
-    for (j, need) in needs.iter().enumerate() {
-        rows[j] = Need {
-            variable: need.first as u16,
-            code: need.second as u16 + 1,
-        };
-    }
-    rows
+    array::from_fn(|j| need_at(needs, j))
 }
 
 // Whether a unit is among these.
@@ -83,6 +85,7 @@ fn has_unit(units: &[Item], unit: usize) -> bool
 fn units_of(units: &[Item]) -> [bool; 32]
     ensures { (u : ℕ) → u < 32 → get_or result u false ≡ list_any (λ item. eqb u item.first) units.now }
 {
+    // By a loop: `from_fn` of 32 says its elements as a chain of 32 calls, and the proof stopped before the chain's end.
     let mut flags = [false; 32];
     for (unit, flag) in flags.iter_mut().enumerate() {
         *flag = has_unit(units, unit);

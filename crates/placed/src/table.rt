@@ -1,9 +1,10 @@
 // The rows of what is placed.
-ghost use Rattle.std.specs.Prelude.{◌≡◌, ◌+◌, ◌<◌, ◌≤◌, length, take};
+ghost use Rattle.std.specs.Prelude.{◌≡◌, ◌+◌, ◌<◌, ◌≤◌, length, take, sum_by};
 ghost use Rattle.rules.specs.Plan.{at};
 ghost use Rattle.rules.specs.WellFormed.{SettingsFormed};
 ghost use Rattle.activity.specs.View.{header_view, activity_view};
 ghost use Rattle.placed.specs.Tables.{row_in, volumes_in};
+ghost use Rattle.placed.specs.Bounds.{TicksBounded};
 ghost use Rattle.placed.specs.Held.{TicksAt, CandidateAt};
 ghost use Rattle.placed.specs.Written.{SameBelow};
 
@@ -17,7 +18,17 @@ use rules::PLACES;
 pub struct Placed {
     pub rows: [Row; PLACES],
     pub count: usize,
-    pub ghost few: { count ≤ 64 },
+    // The amounts are bounded where they are asked for, since `put_candidate` takes any.
+    pub ghost ticks: { TicksBounded rows count },
+}
+
+// The volumes of rows, summed.
+fn volume_of(rows: &[Row]) -> u64
+    requires { length rows.now ≤ 64 }
+    ensures value { result ≡ sum_by (λ row. row.volume) rows.now }
+    ensures bound { result ≤ 274877906944 }
+{
+    rows.iter().map(|row| u64::from(row.volume)).sum()
 }
 
 impl Placed {
@@ -68,22 +79,21 @@ impl Placed {
         ensures same_below { SameBelow self.old.count self.old.rows self.new.rows }
     {
         let heat = heater_from(header.minute, start, activity.warm);
-        let row = &mut self.rows[self.count];
-        row.id = activity.id as u16;
-        row.heat = heat as u16;
-        row.start = start as u16;
-        row.end = (start + activity.duration) as u16;
+        self.rows[self.count] = Row {
+            id: activity.id as u16,
+            heat: heat as u16,
+            start: start as u16,
+            end: (start + activity.duration) as u16,
+            ..*self.candidate()
+        };
         self.count += 1;
     }
 
     // The volumes of what is placed, summed.
+    #[tactic(auto, using(crate::proofs::Rows::volumes_taken))]
     pub fn total_volume(&self) -> u64
         ensures { (result ≡ volumes_in self.now.rows self.now.count) × (result ≤ 274877906944) }
     {
-        let mut sum = 0;
-        for row in self.entries() {
-            sum += u64::from(row.volume);
-        }
-        sum
+        volume_of(self.entries())
     }
 }

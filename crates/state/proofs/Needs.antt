@@ -6,10 +6,11 @@ use mathlib.Core.Bool.{◌&&◌, not}
 use mathlib.Core.List.{List}
 use native.Mathlib.Nat.{le_refl}
 use lib.Dec.{leb, ltb, eqb}
-use lib.ListN.{get_or}
+use lib.ListN.{length, get_or}
+use Rattle.std.proofs.lemmas.List.{get_or_default}
 use borrow.Author.Tests.{ne_eqb, lt-ltb, le-ltb, le-leb}
 use Rattle.placed.specs.declared.row.Row.{Row}
-use Rattle.placed.specs.declared.row.Need.{Need}
+use Rattle.placed.specs.declared.need.Need.{Need}
 use Rattle.placed.specs.Tables.{no_need, row_in, need_variable_at, need_code_at}
 use Rattle.state.specs.declared.judged.Judged.{Judged}
 use Rattle.state.specs.Standing.{standing_by}
@@ -22,15 +23,15 @@ unfolding judged
 judged_none rows n j e = rw e refl
 
 -- ---- a need of the candidate's row
-module _ (rows : List Row) (n j : ℕ) (own : Row) (e : own ≡ row_in rows n) where
+module _ (rows : List Row) (n j : ℕ) (own : Row) (d : Need) (e : own ≡ row_in rows n) (inside : j < length own.needs) where
   abbrev need : Need
-  need = get_or own.needs j no_need
+  need = get_or own.needs j d
 
   code_is : need.code ≡ need_code_at rows n j
-  code_is = ap (λ (row : Row). (get_or row.needs j no_need).code) e
+  code_is = ap (λ (x : Need). x.code) (get_or_default own.needs j d no_need inside) ∙ ap (λ (row : Row). (get_or row.needs j no_need).code) e
 
   variable_is : need.variable ≡ need_variable_at rows n j
-  variable_is = ap (λ (row : Row). (get_or row.needs j no_need).variable) e
+  variable_is = ap (λ (x : Need). x.variable) (get_or_default own.needs j d no_need inside) ∙ ap (λ (row : Row). (get_or row.needs j no_need).variable) e
 
   pub judged_absent : need.code ≡ 0 → judged rows n j ≡ 0
   judged_absent z = judged_none rows n j (sym code_is ∙ z)

@@ -1,7 +1,7 @@
 -- The test of the candidate's own needs, which row n says: at its start, and wherever a placed activity ends inside it.
 use Rattle.std.specs.Prelude.{ℕ, suc, Bool, cond, ◌&&◌, not, List, leb, ltb, eqb, get_or}
 use Rattle.rules.specs.Tests.{each}
-use Rattle.placed.specs.declared.row.Need.{Need}
+use Rattle.placed.specs.declared.need.Need.{Need}
 use Rattle.placed.specs.declared.row.Row.{Row}
 use Rattle.placed.specs.Tables.{no_need, row_in, end_at, need_variable_at, need_code_at}
 use Rattle.state.specs.Standing.{standing_by}

@@ -1,7 +1,7 @@
 -- The test of the needs of the placed: the ticks of effect at which the candidate's sets, which row n says, spoil them.
 use Rattle.std.specs.Prelude.{ℕ, Bool, cond, ◌&&◌, not, List, leb, ltb, eqb, get_or}
 use Rattle.rules.specs.Tests.{each}
-use Rattle.placed.specs.declared.row.Need.{Need}
+use Rattle.placed.specs.declared.need.Need.{Need}
 use Rattle.placed.specs.declared.row.Row.{Row}
 use Rattle.placed.specs.Tables.{no_need, row_in, start_at, set_at}
 use Rattle.placed.specs.Bounds.{never}

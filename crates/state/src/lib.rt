@@ -7,7 +7,6 @@ mod standing;
 
 ghost use Rattle.std.specs.Prelude.{◌≡◌, ◌+◌, ◌<◌, ◌≤◌};
 ghost use Rattle.sets.specs.Table.{Marked, Markable};
-ghost use Rattle.placed.specs.Bounds.{SettingsBounded};
 ghost use Rattle.state.specs.Judging.{JudgedRight};
 ghost use Rattle.state.specs.State.{needs_met, state_met};
 
@@ -26,7 +25,7 @@ fn needs_met(
     duration: u32,
     start: u32,
 ) -> bool
-    requires n_bound { (placed.now.count < 64) × SettingsBounded placed.now.rows (placed.now.count + 1) }
+    requires n_bound { placed.now.count < 64 }
     requires judged_right { JudgedRight placed.now.rows placed.now.count entries.now × (start + duration ≤ 4096) }
     ensures { result ≡ needs_met placed.now.rows placed.now.count spoilt.now duration start }
 {
@@ -36,7 +35,7 @@ fn needs_met(
 
 // Adds `by` at each start below `count` that meets S.
 pub fn mark_state(placed: &Placed, duration: u32, count: u32, by: u16, table: &mut [u16])
-    requires n_bound { (placed.now.count < 64) × SettingsBounded placed.now.rows (placed.now.count + 1) }
+    requires n_bound { placed.now.count < 64 }
     requires duration_bound { (count + duration ≤ 4097) × Markable by count table.old }
     ensures { Marked (state_met placed.now.rows placed.now.count duration) by count table.old table.new }
 {

@@ -20,7 +20,7 @@ fn can_spoil(set: u16, need: u16) -> bool
 // they spoil it at none.
 #[tactic(auto, unfolding(crate::specs::Spoils::spoils_from))]
 pub fn spoils_from(placed: &Placed, need: Need, start: u16) -> u16
-    requires { (placed.now.count < 64) × (need.variable < 8) }
+    requires { placed.now.count < 64 }
     ensures { result ≡ spoils_from placed.now.rows placed.now.count need start }
 {
     let set = placed.candidate().sets[usize::from(need.variable)];

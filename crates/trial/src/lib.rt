@@ -9,7 +9,7 @@ ghost use Rattle.std.specs.Prelude.{◌≡◌, true, ◌+◌, ◌<◌, ◌≤◌
 ghost use Rattle.rules.specs.WellFormed.{HeaderFormed};
 ghost use Rattle.activity.specs.View.{header_view};
 ghost use Rattle.placed.specs.Tables.{draw_at};
-ghost use Rattle.placed.specs.Bounds.{TicksBounded, AmountsBounded};
+ghost use Rattle.placed.specs.Bounds.{AmountsBounded};
 ghost use Rattle.sets.specs.Table.{Marked, Markable};
 ghost use Rattle.charge.specs.Charge.{own_view, drawn_in, at_tick, kept_by};
 ghost use Rattle.trial.specs.Trial.{draw_with, kept_at};
@@ -91,7 +91,7 @@ pub fn mark_charge(
     by: u16,
     table: &mut [u16],
 )
-    requires n_bound { (placed.now.count < 64) × TicksBounded placed.now.rows placed.now.count × AmountsBounded placed.now.rows (placed.now.count + 1) }
+    requires n_bound { (placed.now.count < 64) × AmountsBounded placed.now.rows (placed.now.count + 1) }
     requires header_formed { HeaderFormed (header_view header) × (kept_by header (drawn_in header placed.now.rows placed.now.count) ≡ true) }
     requires duration_bound { (count + duration ≤ header.horizon + 1) × Markable by count table.old }
     ensures { Marked (kept_at header (drawn_in header placed.now.rows placed.now.count) duration (draw_at placed.now.rows placed.now.count) warm) by count table.old table.new }

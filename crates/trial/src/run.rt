@@ -61,7 +61,7 @@ fn run_ticks(drawn: &Drawn, by: u32, from: usize, to: usize, charges: &mut [i64]
 
 // Runs the charge on from tick `from`, with the placed alone, to the horizon, the first tick under the floor, or the first where the charge is the base's again.
 pub fn run_back(base: &Base, from: usize, charges: &mut [i64]) -> usize
-    requires from_le_horizon { (from ≤ base.now.drawn.header.horizon) × (length charges.old ≡ 4097) }
+    requires from_le_horizon { (from ≤ base.now.drawn.header.horizon) × (base.now.drawn.header.horizon < length charges.old) }
     requires under_capacity { get_or charges.old from (pos 0) ≤ℤ pos base.now.drawn.header.capacity }
     ensures ran_to { (result ≤ base.now.drawn.header.horizon) × Ran base.now.drawn.header (at_tick base.now.drawn.draws.now) from result charges.old charges.new }
     ensures left_early { result < base.now.drawn.header.horizon → (le_z (pos base.now.drawn.header.floor) (get_or charges.new result (pos 0)) ≡ false) ⊎ (get_or charges.new result (pos 0) ≡ get_or base.now.charges.now result (pos 0)) }

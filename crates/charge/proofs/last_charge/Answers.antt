@@ -9,10 +9,10 @@ use Rattle.charge.proofs.Step.{read_natural}
 use Rattle.charge.proofs.Kept.{kept_charge}
 use Rattle.charge.proofs.last_charge.Goals as goal
 
-pub add_placed-requires-clause-ticks_bounded : goal.add_placed-requires-clause-ticks_bounded
+pub add_placed-requires-clause-amounts_bounded : goal.add_placed-requires-clause-amounts_bounded
 unfolding header_view
-add_placed-requires-clause-ticks_bounded c =
-    (c.requires.ticks_bounded.0, c.requires.ticks_bounded.1, c.requires.header_formed.0.heater)
+add_placed-requires-clause-amounts_bounded c =
+    (c.requires.amounts_bounded, c.requires.header_formed.0.heater)
 
 pub add_placed-requires-clause-draws_len : goal.add_placed-requires-clause-draws_len
 add_placed-requires-clause-draws_len c = (refl, zeros 4096)

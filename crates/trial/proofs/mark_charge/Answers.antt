@@ -5,10 +5,10 @@ use Rattle.activity.specs.View.{header_view}
 use Rattle.charge.proofs.Drawn.{drawing, amounts_fewer}
 use Rattle.trial.proofs.mark_charge.Goals as goal
 
-pub add_placed-requires-clause-ticks_bounded : goal.add_placed-requires-clause-ticks_bounded
+pub add_placed-requires-clause-amounts_bounded : goal.add_placed-requires-clause-amounts_bounded
 unfolding header_view
-add_placed-requires-clause-ticks_bounded c =
-    (c.requires.n_bound.1, amounts_fewer _ _ _ (omega arith) c.requires.n_bound.2, c.requires.header_formed.0.heater)
+add_placed-requires-clause-amounts_bounded c =
+    (amounts_fewer _ _ _ (omega arith) c.requires.n_bound.1, c.requires.header_formed.0.heater)
 
 pub add_placed-requires-clause-draws_len : goal.add_placed-requires-clause-draws_len
 add_placed-requires-clause-draws_len c = (refl, zeros 4096)

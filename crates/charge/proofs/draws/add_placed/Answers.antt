@@ -1,7 +1,7 @@
 -- `add_placed` meets its contract: the draws of the rows passed are summed.
-use Rattle.std.proofs.Common.{◌≡◌, ◌∙◌, ap, get_or, take, arith}
-use Rattle.std.proofs.lemmas.List.{get_or-take}
-use Rattle.placed.specs.Tables.{no_row, row_in}
+use Rattle.std.proofs.Common.{◌≡◌, ◌∙◌, ap, arith}
+use Rattle.placed.specs.Tables.{row_in}
+use Rattle.placed.proofs.Rows.{row_taken}
 use Rattle.charge.specs.Charge.{OwnDraw, own_view, row_draw, draw_of}
 use Rattle.charge.proofs.Drawn.{drawn_step, drawn_few}
 use Rattle.charge.proofs.draws.add_placed.Goals as goal
@@ -10,15 +10,15 @@ use Rattle.charge.proofs.draws.add_placed.Goals.{After-row_draw}
 -- what is drawn by the row passed
 own : (c : After-row_draw) → own_view c.row_draw.result ≡ row_draw c.args.header (row_in c.args.placed.now.rows c.loop-row.row-index)
 own c =
-    let here : own_view c.row_draw.result ≡ row_draw c.args.header (get_or (take c.args.placed.now.count c.args.placed.now.rows) c.loop-row.row-index no_row) = (cc) in
-    here ∙ ap (row_draw c.args.header) (get_or-take c.args.placed.now.count c.args.placed.now.rows c.loop-row.row-index no_row (omega arith))
+    c.row_draw.ensures
+    ∙ ap (row_draw c.args.header) (c.row-item.is ∙ row_taken c.args.placed.now.rows _ c.args.placed.now.count c.loop-row.row-index c.row-item.result c.entries-row-items.ensures.value c.entries-row-items.ensures.size (omega (arith, c.loop-row-test.true, c.entries-row-items.ensures.size)))
 
 pub add_draw-requires-clause-small_draws : goal.add_draw-requires-clause-small_draws
 add_draw-requires-clause-small_draws c =
     let s = c.args in
-    let p = c.requires.ticks_bounded in
+    let p = c.requires.amounts_bounded in
     let e = own c in
-    λ t. omega (arith, ap (λ (o : OwnDraw). o.draw) e, ap (λ (o : OwnDraw). o.heater) e, c.loop-row.invariant t, drawn_few s.header s.placed.now.rows _ c.loop-row.row-index p.1 p.2 (omega arith) t, p.0.few, p.1.draw c.loop-row.row-index (omega arith))
+    λ t. omega (arith, ap (λ (o : OwnDraw). o.draw) e, ap (λ (o : OwnDraw). o.heater) e, c.loop-row.invariant t, drawn_few s.header s.placed.now.rows _ c.loop-row.row-index p.0 p.1 (omega arith) t, s.placed.now.ticks.few, p.0.draw c.loop-row.row-index (omega arith))
 
 pub loop-row-preserved : goal.loop-row-preserved
 loop-row-preserved c =

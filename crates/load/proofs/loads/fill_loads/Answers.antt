@@ -1,5 +1,5 @@
 -- `fill_loads` meets its contract: the load of the rows passed, at most a million for each.
-use Rattle.std.proofs.Common.{◌≡◌, ◌∙◌, ◌<◌, ◌≤◌, List, ap, arith}
+use Rattle.std.proofs.Common.{◌≡◌, ◌∙◌, ◌<◌, ◌≤◌, ap, arith}
 use Rattle.placed.specs.declared.row.Row.{Row}
 use Rattle.placed.specs.Tables.{row_in}
 use Rattle.placed.proofs.Rows.{row_taken}
@@ -17,8 +17,7 @@ loop-row-preserved g c =
     let rows = c.args.placed.now.rows in
     let i = c.loop-row.row-index in
     let k : i < c.args.placed.now.count = omega (arith, c.entries-row-items.ensures.size, c.loop-row-test.true) in
-    let row : row_in c.entries-row-items.result.now i ≡ row_in rows i =
-    ap (λ (xs : List Row). row_in xs i) c.entries-row-items.ensures.value ∙ row_taken rows c.args.placed.now.count i k in
+    let row : c.row-item.result ≡ row_in rows i = c.row-item.is ∙ row_taken rows _ c.args.placed.now.count i c.row-item.result c.entries-row-items.ensures.value c.entries-row-items.ensures.size k in
     let light : c.weigh-weight.result ≤ 1000000 = c.requires.weighs i _ c.weigh-weight.result k row c.weigh-weight.ensures in
     record {
       size = c.raise_ticks.ensures.size ∙ c.loop-row.invariant.size;

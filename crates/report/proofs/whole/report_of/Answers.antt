@@ -4,7 +4,7 @@ use mathlib.Core.Path.{refl, ◌∙◌}
 use Rattle.rules.specs.Outcomes.{finished}
 use Rattle.rules.specs.Report.{report}
 use Rattle.plan.specs.View.{plan_view}
-use Rattle.placed.proofs.Bounding.{ticks_bounded_lem, amounts_bounded_lem}
+use Rattle.placed.proofs.Bounding.{amounts_bounded_lem}
 use Rattle.placing.proofs.Accepted.{placeable}
 use Rattle.report.proofs.LineByLine.{rows_say}
 use Rattle.report.proofs.whole.report_of.Goals as goal
@@ -15,7 +15,6 @@ put_finished-requires c =
     let few = (placeable c.args.plan.now).few in
     let R = rows_say S in (
       record {
-        ticks_bounded = ticks_bounded_lem _ _ _ _ S.held S.reached (omega (arith, S.few, c.count.ensures.value));
         amounts_bounded = amounts_bounded_lem _ _ _ _ S.held S.reached;
         placed = _;
         say = R;

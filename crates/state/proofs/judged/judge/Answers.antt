@@ -14,10 +14,10 @@ returns c p e =
       ends = ap (λ (row : Row). row.end) e;
       codes =
           λ j k.
-          let own : get_or c.each_need.result j 0 ≡ code_of_need rows n (get_or c.candidate.result.now.needs j no_need) c.args.row.now.end = search (rules, c.each_need.ensures j k) in
+          let own : get_or c.map.result j 0 ≡ code_of_need rows n (get_or c.candidate.result.now.needs j no_need) c.args.row.now.end = search (rules, c.map.ensures) in
           own ∙ (λ i. code_of_need rows n (get_or (c.candidate.ensures i).needs j no_need) (e i).end);
       spoils =
           λ j k.
-          let own : get_or c.each_need-2.result j 0 ≡ spoils_from rows n (get_or c.args.row.now.needs j no_need) c.args.row.now.start = search (rules, c.each_need-2.ensures j k) in
+          let own : get_or c.map-2.result j 0 ≡ spoils_from rows n (get_or c.args.row.now.needs j no_need) c.args.row.now.start = search (rules, c.map-2.ensures) in
           own ∙ (λ i. spoils_from rows n (get_or (e i).needs j no_need) (e i).start);
     }

@@ -14,6 +14,5 @@ loop-row-preserved c =
     let rows = c.args.placed.now.rows in
     let i = c.loop-row.row-index in
     let k : i < c.args.placed.now.count = omega (arith, c.entries-row-items.ensures.size, c.loop-row-test.true) in
-    let row : row_in c.entries-row-items.result.now i ≡ row_in rows i =
-    ap (λ (xs : List Row). row_in xs i) c.entries-row-items.ensures.value ∙ row_taken rows c.args.placed.now.count i k in
+    let row : c.row-item.result ≡ row_in rows i = c.row-item.is ∙ row_taken rows _ c.args.placed.now.count i c.row-item.result c.entries-row-items.ensures.value c.entries-row-items.ensures.size k in
     rw (c.later-standing.ensures, c.from.ensures, c.loop-row.invariant, row) (sym (stands_more _ _ _ _))

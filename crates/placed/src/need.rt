@@ -1,0 +1,22 @@
+// A need of a row.
+ghost use Rattle.std.specs.Prelude.{◌≡◌, ◌<◌};
+
+// A need: its variable, and the code of its value.
+#[derive(Clone, Copy)]
+pub struct Need {
+    pub variable: u16,
+    pub code: u16,
+    pub ghost known: { variable < 8 },
+}
+
+impl Default for Need {
+    // None.
+    fn default() -> Self
+        ensures { (result.variable ≡ 0) × (result.code ≡ 0) }
+    {
+        Need {
+            variable: 0,
+            code: 0,
+        }
+    }
+}
