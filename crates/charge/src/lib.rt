@@ -38,6 +38,7 @@ pub fn last_charge(header: Header, placed: &Placed) -> u64
 pub fn out_of_reach(header: Header) -> bool
     ensures { result ≡ out_of_reach (header_view header) }
 {
+    // Not by `run_through`: what that runs on is known to keep its charge, by which its steps fit, and here nothing is drawn.
     let mut charge = i64::from(header.first);
     for _ in 0..header.horizon {
         charge = step(charge, header.capacity, header.rate, 0);

@@ -23,7 +23,8 @@ pub fn start_count(header: Header, candidate: &Activity) -> u32
     header.horizon + 1 - candidate.duration
 }
 
-// Adds the bit of condition number c to the entries of the starts that meet it.
+// Adds the bit of condition number c to the entries of the starts that meet it, by a match as document 01 asks. What is
+// given stays apart, with `Ready` asked for: it names a schedule, and a struct can only say what has no more than one proof.
 fn mark(
     c: u32,
     header: Header,

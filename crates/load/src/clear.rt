@@ -46,6 +46,7 @@ pub fn mark_clear(
 {
     let last = duration - 1;
     let mut since = clear_before(loads, last as usize, weight, limit);
+    // By the start, which is marked and compared; an `enumerate` of the loads would widen and narrow it.
     for s in 0..count {
         let t = s + last;
         since = clear_since(loads[t as usize], weight, limit, t, since);

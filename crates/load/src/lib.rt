@@ -15,6 +15,8 @@ use placed::{Placed, Row};
 use rules::TICKS;
 
 // Marks the starts from which what is placed, as it is weighed, and `weight` are within the limit in each tick of the candidate.
+// `limit`, `duration`, `count` and `by` stay numbers, of the header, the candidate and the condition: a struct of them would
+// be taken apart where it is made. So it is asked for here, and wherever they come, that the last start ends with the ticks.
 fn mark_load<W: Fn(&Row) -> u32>(
     placed: &Placed,
     weigh: W,

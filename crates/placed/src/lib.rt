@@ -5,7 +5,7 @@ mod row;
 mod table;
 mod ticks;
 
-// A tick past every end.
+// A tick past every end, in place of an Option's None: each test only asks whether it is at or before another tick.
 pub const NEVER: u16 = 4097;
 
 pub use need::Need;

@@ -50,7 +50,7 @@ impl Placed {
         &self.rows[..self.count]
     }
 
-    // The candidate's row.
+    // The candidate's row. That there is one is asked for, as in all that reads it: the struct is also that of 64 placed.
     pub fn candidate(&self) -> &Row
         requires { self.now.count < 64 }
         ensures { result.now ≡ row_in self.now.rows self.now.count }

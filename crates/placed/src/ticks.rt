@@ -4,6 +4,7 @@ ghost use Rattle.rules.specs.Warmup.{warmup_at};
 ghost use Rattle.placed.specs.Raised.{Raised};
 
 // The tick at which the heater begins to work before a start; its ticks below 0 draw nothing.
+// `warm` is a number, 0 or 1 in a plan, as the definitions have it: a bool would be turned back into one in every clause.
 pub fn heater_from(minute: u32, start: u32, warm: u32) -> u32
     ensures { (result ≡ start - warmup_at minute start warm) × (result ≤ start) }
 {

@@ -1,11 +1,13 @@
 -- A table marked start by start.
 -- Assumes nothing.
-use Prim.Native.Nat.{ℕ, ◌+◌, ◌<◌}
+use Prim.Native.Nat.{ℕ, ◌+◌, ◌-◌, ◌<◌, ◌≤◌}
 use mathlib.Core.Path.{◌≡◌, refl, ap, ◌∙◌, subst⁻¹}
 use mathlib.Core.Bool.{Bool, cond}
-use mathlib.Core.List.{List}
+use mathlib.Core.List.{List, ◌++◌}
 use native.Mathlib.Omega.{arith}
-use lib.ListN.{length, get_or, set, length-set}
+use lib.ListN.{length, get_or, set, take, drop, length-set}
+use Rattle.std.proofs.lemmas.List.{length-take-le, length-append, length-drop, get_or-take, get_or-drop, get_or-append_right}
+use Rattle.std.proofs.Math.ListN.{get_or-append}
 use lib.Seq.{get_or-set_same, get_or-set_other}
 use borrow.Author.Count.{below_more}
 use Rattle.sets.specs.Table.{Marked, Markable}
@@ -31,6 +33,16 @@ module _ (test : ℕ → Bool) (by : ℕ) where
   -- the next start is raised
   pub marked_more : (s : ℕ) (old new next : List ℕ) (b : Bool) → s < length old → Marked test by s old new → next ≡ set new s (get_or new s 0 + cond b by 0) → b ≡ test s → Marked test by (s + 1) old next
   marked_more s old new next b l m e q = subst⁻¹ (Marked test by (s + 1) old) e (more_marked s old new _ l (ap (λ (x : Bool). get_or new s 0 + cond x by 0) q) m)
+
+  -- the first n entries marked, before the others
+  pub marked_front : (n : ℕ) (old new : List ℕ) → n ≤ length old → Marked test by n (take n old) new → Marked test by n old (new ++ drop n old)
+  marked_front n old new l m =
+      let size = m.size ∙ length-take-le n old l in
+      record {
+        size = length-append new (drop n old) ∙ omega (arith, size, length-drop n old);
+        raised = λ s h. get_or-append new (drop n old) 0 s (omega (arith, size)) ∙ m.raised s h ∙ ap (λ x. x + cond (test s) by 0) (get_or-take n old s 0 h);
+        rest = λ s h. get_or-append_right new (drop n old) n s 0 size h ∙ get_or-drop n old (s - n) 0 ∙ ap (λ k. get_or old k 0) (omega arith);
+      }
 
   -- its entry can be raised
   pub markable_at : (n s : ℕ) (old new : List ℕ) → s < n → Markable by n old → Marked test by s old new → (s < length new) × (get_or new s 0 + by < 65536)

@@ -15,14 +15,17 @@ pub fn raise(s: u32, met: bool, by: u16, table: &mut [u16])
     }
 }
 
-// Adds `by` to the entries of those of the first `count` starts for which the test holds.
+// Adds `by` to the entries of those of the first `count` starts for which the test holds. `count`, `by` and `table` stay
+// apart, with `Markable` asked for: a struct would have to say it after the mark, too, which has used the room for `by`.
 pub fn mark_where<F: Fn(u32) -> bool>(test: F, count: u32, by: u16, table: &mut [u16])
     requires callable { (s : ℕ) → s < count → F.pre test s }
     requires markable { Markable by count table.old }
     ensures { (p : ℕ → Bool) → ((s : ℕ) (met : Bool) → s < count → F.post test s met → met ≡ p s) → Marked p by count table.old table.new }
 {
-    for s in 0..count {
-        raise(s, test(s), by, table);
+    for (s, entry) in table[..count as usize].iter_mut().enumerate() {
+        if test(s as u32) {
+            *entry += by;
+        }
     }
 }
 

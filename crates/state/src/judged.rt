@@ -1,6 +1,6 @@
 // What is judged of each entry, worked out once for all starts of a candidate.
-ghost use Rattle.std.specs.Prelude.{◌≡◌, ℕ, ◌+◌, ◌<◌, length, get_or, take};
-ghost use Rattle.placed.specs.Tables.{no_need, row_in};
+ghost use Rattle.std.specs.Prelude.{◌≡◌, ℕ, ◌<◌, length, take};
+ghost use Rattle.placed.specs.Tables.{row_in};
 ghost use Rattle.state.specs.Judging.{JudgedAt, JudgedRight};
 
 use crate::own::code_of_need;
@@ -8,7 +8,7 @@ use crate::spoils::spoils_from;
 use placed::{Placed, Row};
 
 // An entry's end, the codes that stand there of the variables of the candidate's needs, and the first ticks of effect at
-// which the candidate's sets spoil the entry's needs.
+// which the candidate's sets spoil the entry's needs. The two go by different needs, so that they are no array of pairs.
 #[derive(Clone, Copy, Default)]
 pub struct Judged {
     pub end: u16,

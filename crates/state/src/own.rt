@@ -1,5 +1,5 @@
 // The candidate's own needs, at its start and wherever a placed activity ends inside it.
-ghost use Rattle.std.specs.Prelude.{◌≡◌, ◌+◌, ◌<◌, ◌&&◌, not, eqb, leb, ltb};
+ghost use Rattle.std.specs.Prelude.{◌≡◌, ◌<◌, ◌&&◌, not, eqb, leb, ltb};
 ghost use Rattle.state.specs.Standing.{standing_by};
 ghost use Rattle.state.specs.Own.{code_of_need, own_met};
 ghost use Rattle.state.specs.Judging.{JudgedRight};

@@ -1,6 +1,5 @@
 -- `standing_at` meets its contract: the sets of the rows passed are weighed.
-use Rattle.std.proofs.Common.{◌≡◌, sym, ap, ◌∙◌, ◌<◌, List, arith}
-use Rattle.placed.specs.declared.row.Row.{Row}
+use Rattle.std.proofs.Common.{◌≡◌, sym, ◌∙◌, ◌<◌, arith}
 use Rattle.placed.specs.Tables.{row_in}
 use Rattle.placed.proofs.Rows.{row_taken}
 use Rattle.state.proofs.Loops.{stands_none, stands_more}
