@@ -9,6 +9,7 @@ fn lowest_charge(charges: &[i64], horizon: usize) -> i64
     requires { horizon < length charges.now }
     ensures { result ≡ lowest_of charges.now horizon }
 {
+    // By a loop, as `lowest_of` goes on from the first charge: an iterator's `min` answers an Option, which is never None here.
     let mut lowest = charges[0];
     for charge in &charges[1..=horizon] {
         lowest = lowest.min(*charge);
