@@ -4,6 +4,7 @@ ghost use Rattle.sets.specs.Table.{Marked, Markable};
 ghost use Rattle.load.specs.Loads.{number_at};
 ghost use Rattle.load.specs.Clear.{clear_since, fits, clear_for};
 
+use rules::TICKS;
 use sets::table::raise;
 
 // The tick from which the weight fits in all up to the tick t, given that from which it fits in all before t.
@@ -32,7 +33,7 @@ fn clear_before(loads: &[u32], to: usize, weight: u32, limit: u32) -> u32
 
 // Marks the starts from which the weight fits in each of `duration` ticks.
 pub fn mark_clear(
-    loads: &[u32],
+    loads: &[u32; TICKS],
     duration: u32,
     weight: u32,
     limit: u32,
@@ -40,7 +41,7 @@ pub fn mark_clear(
     by: u16,
     table: &mut [u16],
 )
-    requires le_duration { (1 ≤ duration) × (count + duration ≤ 4097) × (length loads.now ≡ 4096) }
+    requires le_duration { (1 ≤ duration) × (count + duration ≤ 4097) }
     requires markable { Markable by count table.old }
     ensures { Marked (clear_for (fits (number_at loads.now) weight limit) duration) by count table.old table.new }
 {

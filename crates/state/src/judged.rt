@@ -1,11 +1,12 @@
 // What is judged of each entry, worked out once for all starts of a candidate.
-ghost use Rattle.std.specs.Prelude.{◌≡◌, ℕ, ◌<◌, length, take};
+ghost use Rattle.std.specs.Prelude.{◌≡◌, ℕ, ◌<◌, take};
 ghost use Rattle.placed.specs.Tables.{row_in};
 ghost use Rattle.state.specs.Judging.{JudgedAt, JudgedRight};
 
 use crate::own::code_of_need;
 use crate::spoils::spoils_from;
 use placed::{Placed, Row};
+use rules::PLACES;
 
 // An entry's end, the codes that stand there of the variables of the candidate's needs, and the first ticks of effect at
 // which the candidate's sets spoil the entry's needs. The two go by different needs, so that they are no array of pairs.
@@ -32,8 +33,8 @@ fn judge(placed: &Placed, row: &Row) -> Judged
 }
 
 // Writes what is judged of each entry.
-pub fn judge_all(placed: &Placed, judged: &mut [Judged])
-    requires { (placed.now.count < 64) × (length judged.old ≡ 64) }
+pub fn judge_all(placed: &Placed, judged: &mut [Judged; PLACES])
+    requires { placed.now.count < 64 }
     ensures { JudgedRight placed.now.rows placed.now.count (take placed.now.count judged.new) }
 {
     // By the place: of a `zip` with `iter_mut` the loop knows only the pairs that it gave, and the proof did not close.

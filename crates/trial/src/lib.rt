@@ -5,7 +5,7 @@ mod own;
 mod run;
 mod spare;
 
-ghost use Rattle.std.specs.Prelude.{◌≡◌, true, ◌+◌, ◌<◌, ◌≤◌, length};
+ghost use Rattle.std.specs.Prelude.{◌≡◌, true, ◌+◌, ◌<◌, ◌≤◌};
 ghost use Rattle.rules.specs.WellFormed.{HeaderFormed};
 ghost use Rattle.activity.specs.View.{header_view};
 ghost use Rattle.placed.specs.Tables.{draw_at};
@@ -27,8 +27,7 @@ use sets::table::raise;
 use spare::spare_charge;
 
 // A trial: whether the charge keeps to the floor and the handover charge with one activity more. It begins with the base where the activity begins to draw.
-fn trial_keeps(base: &Base, own: OwnDraw, trial: &mut [i64]) -> bool
-    requires trial_len { length trial.old ≡ 4097 }
+fn trial_keeps(base: &Base, own: OwnDraw, trial: &mut [i64; CHARGES]) -> bool
     requires in_time { own.end ≤ base.now.drawn.header.horizon }
     ensures { result ≡ kept_by base.now.drawn.header (draw_with (at_tick base.now.drawn.draws.now) (own_view own)) }
 {
@@ -44,8 +43,7 @@ fn trial_keeps(base: &Base, own: OwnDraw, trial: &mut [i64]) -> bool
 }
 
 // The same for any activity: one that draws no more than the base can spare needs no trial.
-fn keeps_charge(base: &Base, own: OwnDraw, trial: &mut [i64]) -> bool
-    requires trial_len { length trial.old ≡ 4097 }
+fn keeps_charge(base: &Base, own: OwnDraw, trial: &mut [i64; CHARGES]) -> bool
     requires in_time { own.end ≤ base.now.drawn.header.horizon }
     ensures { result ≡ kept_by base.now.drawn.header (draw_with (at_tick base.now.drawn.draws.now) (own_view own)) }
 {

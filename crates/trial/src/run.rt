@@ -79,8 +79,7 @@ pub fn run_back(base: &Base, from: usize, charges: &mut [i64]) -> usize
 }
 
 // Fills in the base, the charge at each tick with the placed alone.
-pub fn fill_charges(drawn: &Drawn, charges: &mut [i64])
-    requires { length charges.old ≡ 4097 }
+pub fn fill_charges(drawn: &Drawn, charges: &mut [i64; CHARGES])
     ensures { Charges drawn.now.header (at_tick drawn.now.draws.now) charges.new }
 {
     charges[0] = i64::from(drawn.header.first);

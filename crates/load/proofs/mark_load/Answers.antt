@@ -1,12 +1,11 @@
 -- `mark_load` meets its contract.
-use Rattle.std.proofs.Common.{refl}
 use Rattle.rules.proofs.Lists.{zeros}
 use Rattle.sets.proofs.Marking.{same_marked}
 use Rattle.load.proofs.Loading.{clear_same}
 use Rattle.load.proofs.mark_load.Goals as goal
 
-pub fill_loads-requires-clause-loads_len : goal.fill_loads-requires-clause-loads_len
-fill_loads-requires-clause-loads_len g c = (refl, λ t. zeros 4096 t)
+pub fill_loads-requires-clause-zeros : goal.fill_loads-requires-clause-zeros
+fill_loads-requires-clause-zeros g c = λ t. zeros 4096 t
 
 pub returns : goal.returns
 returns g c =

@@ -11,8 +11,6 @@ spare_charge-requires c =
     (omega (arith, c.fill_charges.ensures.size, kept.short), charges_range _ _ _ kept.first kept.kept c.fill_charges.ensures)
 
 pub loop-s-preserved : goal.loop-s-preserved
-loop-s-preserved c = (
-  c.keeps_charge.auto.trial ∙ c.loop-s.invariant.0,
-  marked_more _ _ _ _ _ _ _ (omega (arith, c.requires.markable.long)) c.loop-s.invariant.1 c.raise.ensures
-      (c.keeps_charge.ensures ∙ own_kept _ _ _ _ _ _ c.own_draw-own.ensures _),
-)
+loop-s-preserved c =
+    marked_more _ _ _ _ _ _ _ (omega (arith, c.requires.markable.long)) c.loop-s.invariant c.raise.ensures
+    (c.keeps_charge.ensures ∙ own_kept _ _ _ _ _ _ c.own_draw-own.ensures _)

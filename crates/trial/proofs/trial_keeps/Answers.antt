@@ -81,20 +81,20 @@ module _ (b : Base) (own : OwnStruct) (trial : List ℤ) (size : length trial �
 pub run_own-ended-requires-clause-under_capacity : goal.run_own-ended-requires-clause-under_capacity
 run_own-ended-requires-clause-under_capacity c =
     let f : SFits w64 (get_or c.args.base.now.charges.now c.args.own.heat (pos 0)) = search rules in
-    begun_most c.args.base.now c.args.own c.args.trial.now c.requires.trial_len c.requires.in_time _ (to_z-of_z f)
+    begun_most c.args.base.now c.args.own c.args.trial.now (search rules) c.requires.in_time _ (to_z-of_z f)
 
 pub returns-then-ended-own : goal.returns-then-ended-own
 returns-then-ended-own c =
     let f : SFits w64 (get_or c.args.base.now.charges.now c.args.own.heat (pos 0)) = search rules in
     let e = c.run_own-ended.ensures in
-    sym (owned_under c.args.base.now c.args.own c.args.trial.now c.requires.trial_len c.requires.in_time _ (to_z-of_z f) _ _ e.ran_to.1 (omega arith) (e.left_early c.if-ended-own.true))
+    sym (owned_under c.args.base.now c.args.own c.args.trial.now (search rules) c.requires.in_time _ (to_z-of_z f) _ _ e.ran_to.1 (omega arith) (e.left_early c.if-ended-own.true))
 
 pub run_back-t-requires-clause-under_capacity : goal.run_back-t-requires-clause-under_capacity
 run_back-t-requires-clause-under_capacity c =
     let f : SFits w64 (get_or c.args.base.now.charges.now c.args.own.heat (pos 0)) = search rules in
     let e = c.run_own-ended.ensures in
     let z : c.run_own-ended.result ≡ c.args.own.end = omega (arith, e.ran_to.0) in
-    rw (← z) (owned_most c.args.base.now c.args.own c.args.trial.now c.requires.trial_len c.requires.in_time _ (to_z-of_z f) _ _ e.ran_to.1)
+    rw (← z) (owned_most c.args.base.now c.args.own c.args.trial.now (search rules) c.requires.in_time _ (to_z-of_z f) _ _ e.ran_to.1)
 
 pub returns-then-last-base : goal.returns-then-last-base
 returns-then-last-base c =
@@ -105,7 +105,7 @@ returns-then-last-base c =
     let y : SFits w64 (get_or c.args.base.now.charges.now c.run_back-t.result (pos 0)) = search rules in
     let z : c.run_own-ended.result ≡ c.args.own.end = omega (arith, own.0) in
     let same = sym (to_z-of_z x) ∙ ap (to_z w64) c.if-last-base.true ∙ to_z-of_z y in
-    eq-eqb _ _ c.if-last-base.true ∙ sym (back_same c.args.base.now c.args.own c.args.trial.now c.requires.trial_len c.requires.in_time _ (to_z-of_z f) _ _ own.1 z _ _ back.1 back.0 same)
+    eq-eqb _ _ c.if-last-base.true ∙ sym (back_same c.args.base.now c.args.own c.args.trial.now (search rules) c.requires.in_time _ (to_z-of_z f) _ _ own.1 z _ _ back.1 back.0 same)
 
 pub returns-then-from-last : goal.returns-then-from-last
 returns-then-from-last c =
@@ -119,7 +119,7 @@ returns-then-from-last c =
     let handover = to_z-of_z {w = w64} (record { sfits = c.from-then-from-last.type_inv }) ∙ c.from-then-from-last.ensures in
     let over = rw (floor, to_z-of_z x) at c.if-from-last.true in
     let n : c.run_back-t.result ≡ h.horizon = ⊎_elim (λ e. e) (λ l. absurd (⊎_elim (both_ways over) (λ q. c.if-last-base.false (ap (of_z w64) q)) (back.left_early l))) (eq-or-lt_of_le back.ran_to.0) in
-    rw (handover, to_z-of_z x) (sym (back_last c.args.base.now c.args.own c.args.trial.now c.requires.trial_len c.requires.in_time _ (to_z-of_z f) _ _ own.1 z _ _ back.ran_to.1 back.ran_to.0 n over))
+    rw (handover, to_z-of_z x) (sym (back_last c.args.base.now c.args.own c.args.trial.now (search rules) c.requires.in_time _ (to_z-of_z f) _ _ own.1 z _ _ back.ran_to.1 back.ran_to.0 n over))
 
 pub returns-else-from-last : goal.returns-else-from-last
 returns-else-from-last c =
@@ -130,4 +130,4 @@ returns-else-from-last c =
     let z : c.run_own-ended.result ≡ c.args.own.end = omega (arith, own.0) in
     let floor = to_z-of_z {w = w64} (record { sfits = c.from.type_inv }) ∙ c.from.ensures in
     let under = rw (floor, to_z-of_z x) at c.if-from-last.false in
-    c.if-from-last.false ∙ sym (back_under c.args.base.now c.args.own c.args.trial.now c.requires.trial_len c.requires.in_time _ (to_z-of_z f) _ _ own.1 z _ _ back.1 back.0 under)
+    c.if-from-last.false ∙ sym (back_under c.args.base.now c.args.own c.args.trial.now (search rules) c.requires.in_time _ (to_z-of_z f) _ _ own.1 z _ _ back.1 back.0 under)

@@ -8,7 +8,7 @@ use native.Mathlib.Omega.{arith}
 use Rattle.load.proofs.clear.mark_clear.Goals as goal
 
 pub clear_before-since-requires : goal.clear_before-since-requires
-clear_before-since-requires c = (omega (arith, c.requires.le_duration.2), omega arith)
+clear_before-since-requires c = (omega arith, omega arith)
 
 pub loop-s-init : goal.loop-s-init
 loop-s-init c = (omega arith, since_first _ _ _ c.clear_before-since.ensures, none_marked _ _ _)

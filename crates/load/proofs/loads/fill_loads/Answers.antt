@@ -1,5 +1,5 @@
 -- `fill_loads` meets its contract: the load of the rows passed, at most a million for each.
-use Rattle.std.proofs.Common.{◌≡◌, ◌∙◌, ◌<◌, ◌≤◌, ap, arith}
+use Rattle.std.proofs.Common.{rules, length, ◌≡◌, ◌∙◌, ◌<◌, ◌≤◌, ap, arith}
 use Rattle.placed.specs.declared.row.Row.{Row}
 use Rattle.placed.specs.Tables.{row_in}
 use Rattle.placed.proofs.Rows.{row_taken}
@@ -9,8 +9,9 @@ use Rattle.load.proofs.loads.fill_loads.Goals as goal
 
 pub loop-row-init : goal.loop-row-init
 loop-row-init g c =
-    let z = c.requires.loads_len in
-    record { size = z.0; most = λ t. omega (arith, z.1 t); sums = λ weights h. loaded_none _ weights _ z.0 z.1 }
+    let size : length c.args.loads.now ≡ 4096 = search rules in
+    let zeros = c.requires.zeros in
+    record { size = size; most = λ t. omega (arith, zeros t); sums = λ weights h. loaded_none _ weights _ size zeros }
 
 pub loop-row-preserved : goal.loop-row-preserved
 loop-row-preserved g c =
