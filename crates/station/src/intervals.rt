@@ -15,10 +15,9 @@ pub fn columns(
     place: usize,
     set: u32,
     room: usize,
-    firsts: &mut [u32],
-    lasts: &mut [u32],
+    firsts: &mut [u32; RUNS],
+    lasts: &mut [u32; RUNS],
 ) -> Result<usize, Refusal>
-    requires { (length firsts.old ≡ 2048) × (length lasts.old ≡ 2048) }
     ensures { ColumnsHeld (starts_call plan.now place set room) result firsts.new lasts.new }
 {
     let held = room.min(RUNS);
@@ -27,14 +26,14 @@ pub fn columns(
 
 // Puts the runs of two columns, their firsts and their lasts, together at the front of `out`.
 pub fn put_runs(out: &mut [Interval], firsts: &[u32], lasts: &[u32])
-    requires { (length firsts.now ≤ length out.old) × (length firsts.now ≡ length lasts.now) }
+    requires { length firsts.now ≤ length out.old }
     ensures { out.new ≡ slice_after (pairs firsts.now lasts.now) out.old }
 {
-    // By index: of what is written through `out.iter_mut().zip(..)` nothing is known behind the loop.
-    for (i, run) in out[..firsts.len()].iter_mut().enumerate() {
-        *run = Interval {
-            first: firsts[i],
-            last: lasts[i],
+    // The records by index: of what is written through `out.iter_mut().zip(..)` nothing is known behind the loop.
+    for (i, (first, last)) in firsts.iter().zip(lasts).enumerate() {
+        out[i] = Interval {
+            first: *first,
+            last: *last,
         };
     }
 }

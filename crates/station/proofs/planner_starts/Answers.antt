@@ -1,5 +1,5 @@
 -- As many runs as are counted fit in the slice and in the columns, and put together they are what the call promises.
-use Rattle.std.proofs.Common.{◌∙◌, sym, arith, length-take-le}
+use Rattle.std.proofs.Common.{sym, arith, length-take-le}
 use Rattle.station.proofs.StartsExported.{runs_fit, runs_exported, refusal_exported}
 use Rattle.station.proofs.planner_starts.Goals as goal
 use Rattle.station.proofs.planner_starts.Goals.{in-Ok, in_default}
@@ -7,29 +7,27 @@ use Rattle.station.proofs.planner_starts.Goals.{in-Ok, in_default}
 pub slice_bounds-firsts-end : goal.slice_bounds-firsts-end
 slice_bounds-firsts-end c =
     let fit = runs_fit c.args.plan.now c.args.place c.args.set c.args.out.now c.columns-answer.result c.columns-answer.new.firsts c.columns-answer.new.lasts c.columns-answer.ensures c.in-Ok.count c.in-Ok.is in
-    omega (arith, fit, c.columns-answer.auto.firsts)
+    omega (arith, fit)
 
 pub slice_bounds-put_runs-end : goal.slice_bounds-put_runs-end
 slice_bounds-put_runs-end c =
     let fit = runs_fit c.args.plan.now c.args.place c.args.set c.args.out.now c.columns-answer.result c.columns-answer.new.firsts c.columns-answer.new.lasts c.columns-answer.ensures c.in-Ok.count c.in-Ok.is in
-    sym (length-take-le c.in-Ok.count c.columns-answer.new.firsts (omega (arith, fit, c.columns-answer.auto.firsts)))
+    sym (length-take-le c.in-Ok.count c.columns-answer.new.firsts (omega (arith, fit)))
 
 pub slice_bounds-lasts-end : goal.slice_bounds-lasts-end
 slice_bounds-lasts-end c =
     let fit = runs_fit c.args.plan.now c.args.place c.args.set c.args.out.now c.columns-answer.result c.columns-answer.new.firsts c.columns-answer.new.lasts c.columns-answer.ensures c.in-Ok.count c.in-Ok.is in
-    omega (arith, fit, c.columns-answer.auto.lasts)
+    omega (arith, fit)
 
 pub slice_bounds-put_runs-end-in-Ok : goal.slice_bounds-put_runs-end-in-Ok
 slice_bounds-put_runs-end-in-Ok c =
     let fit = runs_fit c.args.plan.now c.args.place c.args.set c.args.out.now c.columns-answer.result c.columns-answer.new.firsts c.columns-answer.new.lasts c.columns-answer.ensures c.in-Ok.count c.in-Ok.is in
-    sym (length-take-le c.in-Ok.count c.columns-answer.new.lasts (omega (arith, fit, c.columns-answer.auto.lasts)))
+    sym (length-take-le c.in-Ok.count c.columns-answer.new.lasts (omega (arith, fit)))
 
 pub put_runs-requires : goal.put_runs-requires
 put_runs-requires c =
     let fit = runs_fit c.args.plan.now c.args.place c.args.set c.args.out.now c.columns-answer.result c.columns-answer.new.firsts c.columns-answer.new.lasts c.columns-answer.ensures c.in-Ok.count c.in-Ok.is in
-    let us = length-take-le c.in-Ok.count c.columns-answer.new.firsts (omega (arith, fit, c.columns-answer.auto.firsts)) in
-    let vs = length-take-le c.in-Ok.count c.columns-answer.new.lasts (omega (arith, fit, c.columns-answer.auto.lasts)) in
-    (omega (arith, us, fit), us ∙ sym vs)
+    omega (arith, length-take-le c.in-Ok.count c.columns-answer.new.firsts (omega (arith, fit)), fit)
 
 pub returns : goal.returns
 returns c =
