@@ -56,7 +56,8 @@ pub fn mark_units(placed: &Placed, duration: u32, count: u32, by: u16, table: &m
     );
 }
 
-// Marks the starts that meet E.
+// Marks the starts that meet E. This and `mark_peaks` are two functions: the clause of `mark_load` is of any weights, and
+// each of the two says which.
 pub fn mark_engines(
     placed: &Placed,
     duration: u32,

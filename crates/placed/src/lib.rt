@@ -5,7 +5,8 @@ mod row;
 mod table;
 mod ticks;
 
-// A tick past every end, in place of an Option's None: each test only asks whether it is at or before another tick.
+// A tick past every end, in place of an Option's None: the inner loop of condition S asks only whether a tick has come, which
+// at this one it never has.
 pub const NEVER: u16 = 4097;
 
 pub use need::Need;

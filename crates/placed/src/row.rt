@@ -12,8 +12,8 @@ use items::Item;
 use std::array;
 
 // An entry: when it heats, starts and ends, what it loads, the codes that its sets give the eight variables, its needs, and
-// which of the 32 units it has. A code is one more than a value, and 0 for none, since condition S compares values and
-// their absence in its inner loop.
+// which of the 32 units it has. A code is one more than a value, and 0 for none: the definitions of condition S go by such
+// numbers, so that an Option would be made one again in its clauses, and its inner loop compares two of them at once.
 #[derive(Clone, Copy, Default)]
 pub struct Row {
     pub id: u16,

@@ -13,7 +13,8 @@ use crate::ticks::heater_from;
 use activity::{Activity, Header};
 use rules::PLACES;
 
-// A row for each place: the first `count` are placed, and the next is the candidate's.
+// A row for each place: the first `count` are placed, and the next is the candidate's. So they are no List, which keeps
+// nothing behind its items.
 #[derive(Drop)]
 pub struct Placed {
     pub rows: [Row; PLACES],

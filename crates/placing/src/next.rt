@@ -29,6 +29,7 @@ impl Placing {
     pub fn new() -> Self
         ensures { result.placed.count ≡ 0 }
     {
+        // An array, not a List: an Outcome has no default for the free slots, and `PlacedTo` says how many are answered.
         Placing {
             answers: [Outcome::Refused(0); PLACES],
             placed: Placed::new(),

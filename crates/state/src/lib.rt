@@ -18,6 +18,7 @@ use sets::table::mark_where;
 use spoils::{placed_needs_met, rows_spoilt};
 
 // Whether every need is met with the candidate at `start`; of the placed, those of the `spoilt` are judged.
+// `placed` and `entries`, which `JudgedRight` ties, stay apart: a struct of them would be taken apart again in `own_needs_met`.
 fn needs_met(
     placed: &Placed,
     entries: &[Judged],

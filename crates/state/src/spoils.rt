@@ -42,10 +42,10 @@ pub fn rows_spoilt(entries: &[Judged]) -> usize
     ensures within { result ≤ length entries.now }
     ensures same { (e : ℕ) → e < never → placed_met (spoil_in entries.now) (end_in entries.now) (length entries.now) e ≡ placed_met (spoil_in entries.now) (end_in entries.now) result e }
 {
-    match entries.iter().rposition(can_be_spoilt) {
-        Some(last) => last + 1,
-        None => 0,
-    }
+    entries
+        .iter()
+        .rposition(can_be_spoilt)
+        .map_or(0, |last| last + 1)
 }
 
 // Whether the needs of these entries stay met with the candidate's sets in effect from `effect`, by loops left by label as

@@ -28,6 +28,7 @@ pub fn standing_at(placed: &Placed, variable: u16, tick: u16) -> StandingValue
     requires { variable < 8 }
     ensures { result ≡ standing_by placed.now.rows variable tick placed.now.count }
 {
+    // From tick 0 each variable has the value 0, whose code is 1.
     let mut standing = StandingValue { since: 0, code: 1 };
     for row in placed.entries() {
         standing = later(row.end, row.sets[usize::from(variable)], tick, standing);

@@ -50,7 +50,8 @@ fn keeps_charge(base: &Base, own: OwnDraw, trial: &mut [i64; CHARGES]) -> bool
     energy(own) as i64 <= base.spare || trial_keeps(base, own, trial)
 }
 
-// Adds `by` at each of the first `count` starts at which the charge is kept.
+// Adds `by` at each of the first `count` starts at which the charge is kept. What it goes by stays numbers, as in
+// `load::mark_load`.
 fn mark_kept(
     drawn: &Drawn,
     duration: u32,
@@ -71,7 +72,8 @@ fn mark_kept(
         charges: &charges,
         spare: spare_charge(drawn.header, &charges),
     };
-    // Not by `mark_where`, since a trial writes its charges.
+    // Not by `mark_where`, whose test is an Fn, while a trial writes its charges: with an FnMut its contract would have to go
+    // by the state that each call leaves, which no other test has.
     let mut trial = [0i64; CHARGES];
     for s in 0..count {
         let own = own_draw(drawn.header, s, duration, draw, warm);

@@ -14,6 +14,8 @@ use charge::sums::Drawn;
 pub const CHARGES: usize = 4097;
 
 // Runs the charge on from tick `from`, with `by` drawn beside the placed, to tick `to`, the first tick under the floor, or the first whose charge ends the run. Answers the tick reached.
+// Beside charge's `run_through`, which keeps no charges and stops nowhere. That the first charge is not over the capacity is
+// asked in each run here: the charges are lent, and each run begins at another tick.
 fn run_until<E: Fn(usize, i64) -> bool>(
     drawn: &Drawn,
     by: u32,
@@ -60,6 +62,7 @@ fn run_ticks(drawn: &Drawn, by: u32, from: usize, to: usize, charges: &mut [i64]
 }
 
 // Runs the charge on from tick `from`, with the placed alone, to the horizon, the first tick under the floor, or the first where the charge is the base's again.
+// A slice, of which it is only asked that it has the charge at the horizon.
 pub fn run_back(base: &Base, from: usize, charges: &mut [i64]) -> usize
     requires from_le_horizon { (from ≤ base.now.drawn.header.horizon) × (base.now.drawn.header.horizon < length charges.old) }
     requires under_capacity { get_or charges.old from (pos 0) ≤ℤ pos base.now.drawn.header.capacity }

@@ -4,14 +4,9 @@ use Rattle.state.specs.Judging.{judged_in, can_be_spoilt}
 use Rattle.state.proofs.Entries.{rows_past}
 use Rattle.state.proofs.spoils.rows_spoilt.Goals as goal
 
-pub returns-in-Some-clause-same : goal.returns-in-Some-clause-same
-returns-in-Some-clause-same c =
+pub returns-clause-same : goal.returns-clause-same
+returns-clause-same c =
     let entries = c.args.entries.now in
-    let past : (p : ℕ) → c.in-Some.last + 1 ≤ p → p < length entries → can_be_spoilt (judged_in entries p) ≡ false = search rules in
-    rows_past entries (c.in-Some.last + 1) (omega (arith, c.in-Some.ensures.bound)) past
-
-pub returns-in-None-clause-same : goal.returns-in-None-clause-same
-returns-in-None-clause-same c =
-    let entries = c.args.entries.now in
-    let past : (p : ℕ) → 0 ≤ p → p < length entries → can_be_spoilt (judged_in entries p) ≡ false = search rules in
-    rows_past entries 0 (omega arith) past
+    let within : c.map_or.result ≤ length entries = search rules in
+    let past : (p : ℕ) → c.map_or.result ≤ p → p < length entries → can_be_spoilt (judged_in entries p) ≡ false = search rules in
+    rows_past entries c.map_or.result within past
