@@ -10,6 +10,7 @@ use report::lines::Report;
 use report::whole::{no_line_of, report_of};
 use rules::{ALL_CONDITIONS, Fault, Outcome, Refusal, TICKS};
 use schedule::runs::{count_runs, write_runs};
+use schedule::table::Table;
 
 // The outcome of the activity at a place: placed with its start, or refused with its letters.
 pub fn outcome(bytes: &[u8], place: usize) -> Result<Outcome, Refusal>
@@ -43,7 +44,8 @@ pub fn report(bytes: &[u8], out: &mut [u8]) -> Result<usize, Refusal>
     hand_over(report_of(&plan).as_slice(), out)
 }
 
-// Writes the runs of starts at a place that meet a set of conditions, and answers their count.
+// Writes the runs of starts at a place that meet a set of conditions, and answers their count. The arguments are those
+// of the call, as document 01 and C have it.
 fn runs_at(
     plan: &Plan,
     place: usize,
@@ -56,12 +58,14 @@ fn runs_at(
 {
     let mut table = [0; TICKS];
     let count = placing::fill_at(plan, place, &mut table);
-    let sets = &table[..count as usize];
-    let runs = count_runs(sets, set);
+    let table = Table {
+        sets: &table[..count as usize],
+    };
+    let runs = count_runs(&table, set);
     if firsts.len().min(lasts.len()) < runs {
         return Err(Fault::NoRoom.into());
     }
-    write_runs(sets, set, firsts, lasts);
+    write_runs(&table, set, firsts, lasts);
     Ok(runs)
 }
 

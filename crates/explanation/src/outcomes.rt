@@ -7,9 +7,10 @@ ghost use Rattle.explanation.specs.Places.{letter_line, letter_text, letter_text
 ghost use Rattle.explanation.specs.Tabled.{Small, runs_in};
 ghost use Rattle.wording.specs.Writing.{with_more};
 
-use crate::runs::{Table, put_runs_line};
+use crate::runs::put_runs_line;
 use report::letters::letters;
 use rules::{ALL_CONDITIONS, CONDITIONS, Outcome};
+use schedule::table::Table;
 use wording::words::condition_words;
 use wording::writing::Part;
 

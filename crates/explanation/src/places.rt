@@ -7,10 +7,10 @@ ghost use Rattle.explanation.specs.Places.{place_text, place_texts};
 ghost use Rattle.wording.specs.Writing.{with_more};
 
 use crate::outcomes::put_outcome;
-use crate::runs::Table;
 use placing::{Placing, place_next, start_count_at};
 use plan::Plan;
 use rules::{Outcome, TICKS};
+use schedule::table::Table;
 use wording::writing::Part;
 
 // Writes what came of the activity at place k, by its table of sets.

@@ -1,19 +1,13 @@
 // The runs of starts that meet a set of conditions.
-ghost use Rattle.std.specs.Prelude.{◌≡◌, ◌<◌, ◌^◌, length};
+ghost use Rattle.std.specs.Prelude.{◌≡◌};
 ghost use Rattle.explanation.specs.Places.{run_text, run_texts, runs_text, runs_line};
 ghost use Rattle.explanation.specs.Tabled.{runs_in};
 ghost use Rattle.wording.specs.Writing.{with_more};
 
 use rules::Interval;
 use schedule::runs::{Runs, count_runs};
+use schedule::table::Table;
 use wording::writing::Part;
-
-// The sets of conditions that a place's starts meet, as many as `Runs` goes through.
-#[derive(Drop)]
-pub struct Table<'a> {
-    pub sets: &'a [u16],
-    ghost few: { length sets.now < 2 ^ 32 },
-}
 
 // Writes a run of starts.
 #[tactic(auto, using(std::proofs::lemmas::Grind::common_steps, wording::proofs::Pieces::more_then), unfolding(crate::specs::Places::run_text))]
@@ -31,7 +25,7 @@ fn put_run<const N: usize>(out: &mut Part<N>, run: Interval)
 fn put_each_run<const N: usize>(out: &mut Part<N>, table: &Table, set: u16)
     ensures { out.new ≡ with_more N out.old (run_texts (runs_in table.now.sets.now set)) }
 {
-    for run in Runs::new(table.sets, set) {
+    for run in Runs::new(table, set) {
         put_run(out, run);
     }
 }
@@ -41,14 +35,15 @@ fn put_each_run<const N: usize>(out: &mut Part<N>, table: &Table, set: u16)
 fn put_runs<const N: usize>(out: &mut Part<N>, table: &Table, set: u16)
     ensures { out.new ≡ with_more N out.old (runs_text (runs_in table.now.sets.now set)) }
 {
-    if count_runs(table.sets, set) == 0 {
+    if count_runs(table, set) == 0 {
         out.push(b" none");
     } else {
         put_each_run(out, table, set);
     }
 }
 
-// Writes a line of the runs of starts that meet the set, behind these words.
+// Writes a line of the runs of starts that meet the set, behind these words. The set stays an argument: `put_letter` asks
+// one table for two.
 #[tactic(auto, using(std::proofs::lemmas::Grind::common_steps, wording::proofs::Pieces::more_then), unfolding(crate::specs::Places::runs_line))]
 pub fn put_runs_line<const N: usize>(out: &mut Part<N>, words: &[u8], table: &Table, set: u16)
     ensures { out.new ≡ with_more N out.old (runs_line words.now (runs_in table.now.sets.now set)) }

@@ -6,7 +6,7 @@ ghost use Rattle.rules.specs.Outcomes.{starts, reply, added};
 ghost use Rattle.rules.specs.declared.Outcome.TheVariants.{Placed as PlacedFrom};
 ghost use Rattle.activity.specs.View.{header_view, activity_view};
 ghost use Rattle.plan.specs.View.{plan_view};
-ghost use Rattle.sets.specs.Table.{Table};
+ghost use Rattle.sets.specs.Table.{Table as TableOf};
 ghost use Rattle.placed.specs.Held.{CandidateAt, Held};
 ghost use Rattle.conditions.specs.Ready.{Beside, Ready};
 ghost use Rattle.placing.specs.Places.{PlacedTo, TableAt};
@@ -16,6 +16,7 @@ use placed::Placed;
 use plan::Plan;
 use rules::{Outcome, PLACES, TICKS};
 use schedule::outcome::reply_by;
+use schedule::table::Table;
 
 // What comes of a plan's places in order: the answers at those gone through, and what they place.
 #[derive(Drop)]
@@ -46,11 +47,14 @@ fn reply_to(
 ) -> Outcome
     requires { Ready header candidate.now placed.now.rows placed.now.count }
     ensures value { (before : Schedule) → Beside header candidate.now placed.now.rows placed.now.count before → result ≡ reply (header_view header) before (activity_view candidate.now) }
-    ensures table { (before : Schedule) → Beside header candidate.now placed.now.rows placed.now.count before → Table (meets (header_view header) before (activity_view candidate.now)) (starts (header_view header) (activity_view candidate.now)) table.new }
+    ensures table { (before : Schedule) → Beside header candidate.now placed.now.rows placed.now.count before → TableOf (meets (header_view header) before (activity_view candidate.now)) (starts (header_view header) (activity_view candidate.now)) table.new }
 {
     conditions::fill(header, candidate, placed, table);
     let count = conditions::start_count(header, candidate);
-    reply_by(&table[..count as usize], candidate.preferred)
+    let table = Table {
+        sets: &table[..count as usize],
+    };
+    reply_by(&table, candidate.preferred)
 }
 
 // Puts the candidate with the placed if it is answered as placed.

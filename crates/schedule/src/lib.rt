@@ -5,3 +5,4 @@ mod letters;
 mod nearest;
 pub mod outcome;
 pub mod runs;
+pub mod table;

@@ -1,9 +1,10 @@
 // The valid start nearest to the preferred tick.
-ghost use Rattle.std.specs.Prelude.{◌≡◌, ◌<◌, ◌^◌, eqb, length};
+ghost use Rattle.std.specs.Prelude.{◌≡◌, eqb, length};
 ghost use Rattle.rules.specs.Conditions.{all_conditions};
 ghost use Rattle.rules.specs.Answer.{nearer, nearest};
 ghost use Rattle.schedule.specs.Found.{option_of, is_valid, to_preferred};
 
+use crate::table::Table;
 use rules::ALL_CONDITIONS;
 
 // The start s if it is valid, or the best of those before it: the nearer, of two equally near the earlier.
@@ -20,14 +21,13 @@ fn nearer_of(set: u16, s: u32, preferred: u32, best: Option<u32>) -> Option<u32>
     }
 }
 
-// Of the starts with these sets, the valid one nearest to the preferred tick.
+// Of the starts of a table, the valid one nearest to the preferred tick.
 #[tactic(auto, unfolding(rules::specs::Answer::nearest, crate::specs::Found::is_valid))]
-pub fn nearest_of(sets: &[u16], preferred: u32) -> Option<u32>
-    requires { length sets.now < 2 ^ 32 }
-    ensures { option_of result ≡ nearest (is_valid sets.now) (to_preferred preferred) (length sets.now) }
+pub fn nearest_of(table: &Table, preferred: u32) -> Option<u32>
+    ensures { option_of result ≡ nearest (is_valid table.now.sets.now) (to_preferred preferred) (length table.now.sets.now) }
 {
     let mut best = None;
-    for (s, set) in sets.iter().enumerate() {
+    for (s, set) in table.sets.iter().enumerate() {
         best = nearer_of(*set, s as u32, preferred, best);
     }
     best

@@ -1,5 +1,5 @@
 // The runs of starts that meet a set of conditions, from the first to the last.
-ghost use Rattle.std.specs.Prelude.{◌≡◌, map, ◌^◌, ◌≤◌, ◌<◌, length, position};
+ghost use Rattle.std.specs.Prelude.{◌≡◌, map, ◌≤◌, length, position};
 ghost use Rattle.std.specs.List.{prefix_len};
 ghost use Rattle.std.specs.Iterator.{YieldsFirst, item_count};
 ghost use Rattle.rules.specs.Runs.{runs_from};
@@ -7,6 +7,7 @@ ghost use Rattle.rules.specs.Calls.{slice_after};
 ghost use Rattle.sets.specs.Sets.{holds_set};
 ghost use Rattle.schedule.specs.Search.{NextRun, meets_in};
 
+use crate::table::Table;
 use rules::Interval;
 use sets::contains;
 use std::marker::Model;
@@ -14,33 +15,36 @@ use std::marker::Model;
 // The runs of starts, from the start `from` on, that meet a set.
 #[derive(Drop)]
 pub struct Runs<'a> {
-    sets: &'a [u16],
+    table: &'a Table<'a>,
     set: u16,
     from: u32,
 }
 
 // A clause sees the list of the runs that are left.
 impl<'a> Model for Runs<'a> {
-    ghost use Rattle.std.specs.Prelude.{List, ◌^◌, ◌≤◌, ◌<◌, length};
+    ghost use Rattle.std.specs.Prelude.{List, ◌≤◌, length};
     ghost use Rattle.rules.specs.declared.Interval.{Interval};
     ghost use Rattle.schedule.specs.Search.{meets_in, runs_on};
 
     ghost Value = { List Interval };
 
-    ghost view = { λ a. runs_on (meets_in a.sets.now a.set) (length a.sets.now) a.from };
+    ghost view = { λ a. runs_on (meets_in a.table.now.sets.now a.set) (length a.table.now.sets.now) a.from };
 
-    ghost invariant = { λ a. (a.from ≤ length a.sets.now) × (length a.sets.now < 2 ^ 32) };
+    ghost invariant = { λ a. a.from ≤ length a.table.now.sets.now };
 }
 
 impl<'a> Runs<'a> {
-    // The runs of all starts with these sets.
+    // The runs of all starts of a table.
     #[tactic(auto, using(crate::proofs::NextRuns::from_first, crate::proofs::RunSteps::few_runs))]
-    pub fn new(sets: &'a [u16], set: u16) -> Runs<'a>
-        requires { length sets.now < 2 ^ 32 }
-        ensures runs { result ≡ runs_from (meets_in sets.now set) 0 (length sets.now) }
-        ensures few { length result ≤ length sets.now }
+    pub fn new(table: &'a Table<'a>, set: u16) -> Runs<'a>
+        ensures runs { result ≡ runs_from (meets_in table.now.sets.now set) 0 (length table.now.sets.now) }
+        ensures few { length result ≤ length table.now.sets.now }
     {
-        Runs { sets, set, from: 0 }
+        Runs {
+            table,
+            set,
+            from: 0,
+        }
     }
 }
 
@@ -52,18 +56,18 @@ impl<'a> Iterator for Runs<'a> {
     ghost remaining = { item_count (λ runs. runs) };
 
     fn next(&mut self) -> Option<Interval> {
-        let run = next_run(self.sets, self.set, self.from)?;
+        let run = next_run(self.table, self.set, self.from)?;
         self.from = run.last + 1;
         Some(run)
     }
 }
 
 // The first run of starts, from the start `from` on, that meet the set.
-fn next_run(sets: &[u16], set: u16, from: u32) -> Option<Interval>
-    requires { (from ≤ length sets.now) × (length sets.now < 2 ^ 32) }
-    ensures { NextRun (meets_in sets.now set) (length sets.now) from result }
+fn next_run(table: &Table, set: u16, from: u32) -> Option<Interval>
+    requires { from ≤ length table.now.sets.now }
+    ensures { NextRun (meets_in table.now.sets.now set) (length table.now.sets.now) from result }
 {
-    let rest = &sets[from as usize..];
+    let rest = &table.sets[from as usize..];
     let skipped = first_met(rest, set)?;
     let count = met_in_a_row(&rest[skipped..], set);
     let first = from + skipped as u32;
@@ -86,25 +90,23 @@ fn met_in_a_row(sets: &[u16], set: u16) -> usize
 }
 
 // How many runs of starts meet the set.
-pub fn count_runs(sets: &[u16], set: u16) -> usize
-    requires { length sets.now < 2 ^ 32 }
-    ensures count { result ≡ length (runs_from (meets_in sets.now set) 0 (length sets.now)) }
-    ensures few { result ≤ length sets.now }
+pub fn count_runs(table: &Table, set: u16) -> usize
+    ensures count { result ≡ length (runs_from (meets_in table.now.sets.now set) 0 (length table.now.sets.now)) }
+    ensures few { result ≤ length table.now.sets.now }
 {
-    Runs::new(sets, set).count()
+    Runs::new(table, set).count()
 }
 
 // Writes the runs of starts that meet the set: the first start of each into one slice, the last into the other. Two
 // slices of numbers are document 01's form of the call `starts`.
-pub fn write_runs(sets: &[u16], set: u16, firsts: &mut [u32], lasts: &mut [u32])
-    requires few { length sets.now < 2 ^ 32 }
-    requires firsts_room { length (runs_from (meets_in sets.now set) 0 (length sets.now)) ≤ length firsts.old }
-    requires lasts_room { length (runs_from (meets_in sets.now set) 0 (length sets.now)) ≤ length lasts.old }
-    ensures firsts { firsts.new ≡ slice_after (map (λ r. r.first) (runs_from (meets_in sets.now set) 0 (length sets.now))) firsts.old }
-    ensures lasts { lasts.new ≡ slice_after (map (λ r. r.last) (runs_from (meets_in sets.now set) 0 (length sets.now))) lasts.old }
+pub fn write_runs(table: &Table, set: u16, firsts: &mut [u32], lasts: &mut [u32])
+    requires firsts_room { length (runs_from (meets_in table.now.sets.now set) 0 (length table.now.sets.now)) ≤ length firsts.old }
+    requires lasts_room { length (runs_from (meets_in table.now.sets.now set) 0 (length table.now.sets.now)) ≤ length lasts.old }
+    ensures firsts { firsts.new ≡ slice_after (map (λ r. r.first) (runs_from (meets_in table.now.sets.now set) 0 (length table.now.sets.now))) firsts.old }
+    ensures lasts { lasts.new ≡ slice_after (map (λ r. r.last) (runs_from (meets_in table.now.sets.now set) 0 (length table.now.sets.now))) lasts.old }
 {
     // By index: the borrow checker does not cover `firsts.iter_mut().zip(lasts.iter_mut())`.
-    for (i, run) in Runs::new(sets, set).enumerate() {
+    for (i, run) in Runs::new(table, set).enumerate() {
         firsts[i] = run.first;
         lasts[i] = run.last;
     }

@@ -5,7 +5,7 @@ ghost use Rattle.wording.specs.Writing.{with_more};
 
 use crate::writing::Part;
 
-// The hexadecimal digit x.
+// The hexadecimal digit x. For `write!` and `{:02x}` a `Part` would have to be a writer of std's, which is longer.
 #[tactic(auto, unfolding(crate::specs::Shown::hex_digit))]
 fn hex_digit(x: u8) -> u8
     requires { x < 16 }

@@ -1,6 +1,5 @@
 -- `reply_to` meets its contract.
 use Rattle.std.proofs.Common.{◌≤◌, ◌∙◌, arith, length}
-use Rattle.std.proofs.lemmas.List.{length-take-le}
 use Rattle.rules.specs.Outcomes.{distance, reply}
 use Rattle.activity.specs.View.{activity_view}
 use Rattle.schedule.specs.Found.{to_preferred}
@@ -12,7 +11,7 @@ reply_by-requires c =
     let count = c.start_count-count.ensures in
     let long : c.start_count-count.result ≤ length c.fill.new.table = omega (arith, c.fill.array_long) in
     let small = entries_small _ _ _ (c.fill.ensures c.requires.0 c.requires.1) in
-    (omega (arith, length-take-le c.start_count-count.result c.fill.new.table), first_small _ _ long _ small)
+    first_small _ _ long _ small
 
 pub returns-clause-value : goal.returns-clause-value
 unfolding reply distance to_preferred activity_view

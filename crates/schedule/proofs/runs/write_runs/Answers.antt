@@ -9,7 +9,7 @@ use Rattle.schedule.proofs.runs.write_runs.Goals as goal
 pub loop-i-init : goal.loop-i-init
 unfolding slice_after
 loop-i-init c =
-    let all = runs_from (meets_in c.args.sets.now c.args.set) 0 (length c.args.sets.now) in
+    let all = runs_from (meets_in c.args.table.now.sets.now c.args.set) 0 (length c.args.table.now.sets.now) in
     let none : c.into_iter-i-iterator.result.count ≡ 0 = (cc) in
     let left : all ≡ c.into_iter-i-iterator.result.iter = (cc) in
     rw none (left, refl, refl)
@@ -17,7 +17,7 @@ loop-i-init c =
 pub loop-i-preserved : goal.loop-i-preserved
 loop-i-preserved c =
     let at = c.loop-i.invariant in
-    let all = runs_from (meets_in c.args.sets.now c.args.set) 0 (length c.args.sets.now) in
+    let all = runs_from (meets_in c.args.table.now.sets.now c.args.set) 0 (length c.args.table.now.sets.now) in
     let step = c.in-Some.ensures.steps in
     let next = at.0 ∙ step.0 in
     rw (step.1, step.2) (

@@ -7,7 +7,7 @@ use Rattle.schedule.proofs.runs.write_runs.Given as goal
 
 abbrev pub invariant-loop-i : goal.invariant-loop-i
 invariant-loop-i l =
-    let all = runs_from (meets_in l.sets l.set) 0 (length l.sets) in
+    let all = runs_from (meets_in l.fn.table.sets.now l.set) 0 (length l.fn.table.sets.now) in
     let next = l.i-iterator in
     (drop next.count all ≡ next.iter)
     × (l.firsts ≡ slice_after (map (λ r. r.first) (take next.count all)) l.initial.firsts)
