@@ -34,6 +34,7 @@ fn code_of(settings: &[Item], variable: u32) -> u16
     requires { SettingsFormed (map setting_of settings.now) }
     ensures { result ≡ code_of (given (map setting_of settings.now) variable) }
 {
+    // By a loop: with `find` and `map_or` it stayed unproved that the value found, and one more, fits its type.
     for setting in settings {
         if setting.first == variable {
             return setting.second as u16 + 1;
