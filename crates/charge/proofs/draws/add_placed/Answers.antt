@@ -1,5 +1,5 @@
 -- `add_placed` meets its contract: the draws of the rows passed are summed.
-use Rattle.std.proofs.Common.{◌≡◌, ◌∙◌, ap, arith}
+use Rattle.std.proofs.Common.{rules, ◌≡◌, ◌∙◌, ap, arith}
 use Rattle.placed.specs.Tables.{row_in}
 use Rattle.placed.proofs.Rows.{row_taken}
 use Rattle.charge.specs.Charge.{OwnDraw, own_view, row_draw, draw_of}
@@ -11,7 +11,7 @@ use Rattle.charge.proofs.draws.add_placed.Goals.{After-row_draw}
 own : (c : After-row_draw) → own_view c.row_draw.result ≡ row_draw c.args.header (row_in c.args.placed.now.rows c.loop-row.row-index)
 own c =
     c.row_draw.ensures
-    ∙ ap (row_draw c.args.header) (c.row-item.is ∙ row_taken c.args.placed.now.rows _ c.args.placed.now.count c.loop-row.row-index c.row-item.result c.entries-row-items.ensures.value c.entries-row-items.ensures.size (omega (arith, c.loop-row-test.true, c.entries-row-items.ensures.size)))
+    ∙ ap (row_draw c.args.header) (c.row-item.is ∙ row_taken c.args.placed.now.rows _ c.args.placed.now.count c.loop-row.row-index c.row-item.result (search rules) (search rules) (omega arith))
 
 pub add_draw-requires-clause-small_draws : goal.add_draw-requires-clause-small_draws
 add_draw-requires-clause-small_draws c =
