@@ -17,8 +17,8 @@ pub loop-row-preserved : goal.loop-row-preserved
 loop-row-preserved g c =
     let rows = c.args.placed.now.rows in
     let i = c.loop-row.row-index in
-    let k : i < c.args.placed.now.count = omega (arith, c.entries-row-items.ensures.size, c.loop-row-test.true) in
-    let row : c.row-item.result ≡ row_in rows i = c.row-item.is ∙ row_taken rows _ c.args.placed.now.count i c.row-item.result c.entries-row-items.ensures.value c.entries-row-items.ensures.size k in
+    let k : i < c.args.placed.now.count = omega arith in
+    let row : c.row-item.result ≡ row_in rows i = c.row-item.is ∙ row_taken rows _ c.args.placed.now.count i c.row-item.result (search rules) (search rules) k in
     let light : c.weigh-weight.result ≤ 1000000 = c.requires.weighs i _ c.weigh-weight.result k row c.weigh-weight.ensures in
     record {
       size = c.raise_ticks.ensures.size ∙ c.loop-row.invariant.size;
