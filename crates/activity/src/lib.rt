@@ -2,7 +2,8 @@
 // A plan's first line and an activity line, as the code holds them (document 01, The plan file).
 use items::Items;
 
-// The first line's numbers.
+// The first line's numbers. That they are within their ranges (`HeaderFormed`) is asked for where it is needed: in the type
+// it would ask more of callers, as of `charge::out_of_reach`.
 #[derive(Clone, Copy)]
 pub struct Header {
     pub horizon: u32,

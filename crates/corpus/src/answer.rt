@@ -12,13 +12,6 @@ pub fn left_from<T: PartialEq + Copy>(lent: &[T], from: usize, mark: T) -> bool 
     lent.iter().skip(from).all(|item| *item == mark)
 }
 
-// Writes a refusal.
-fn put_no(rt: &impl Print, refusal: Refusal) -> io::Result<()> {
-    let number = u32::from(refusal.fault);
-    let line = refusal.line;
-    print!(rt; "\tno\t{number}\t{line}")
-}
-
 // Why a call was refused.
 pub fn fault_of(answer: Result<usize, Refusal>) -> Option<Fault> {
     answer.err().map(|refusal| refusal.fault)
@@ -28,7 +21,7 @@ pub fn fault_of(answer: Result<usize, Refusal>) -> Option<Fault> {
 pub fn put_count(rt: &impl Print, answer: Result<usize, Refusal>) -> io::Result<()> {
     match answer {
         Ok(count) => print!(rt; "\t{count}"),
-        Err(refusal) => put_no(rt, refusal),
+        Err(refusal) => print!(rt; "\t{refusal}"),
     }
 }
 
@@ -42,7 +35,7 @@ pub fn put_outcome(
     match answer {
         Ok(Outcome::Placed(start)) => print!(rt; "\tplaced\t{start}"),
         Ok(Outcome::Refused(set)) => print!(rt; "\trefused\t{set}"),
-        Err(refusal) => put_no(rt, refusal),
+        Err(refusal) => print!(rt; "\t{refusal}"),
     }?;
     println!(rt; "")
 }

@@ -72,6 +72,7 @@ fn answer_record(rt: &impl Print, records: &mut Records) -> io::Result<()>
 fn answer_records(rt: &impl Print, s: &[u8]) -> io::Result<()> {
     let mut records = Records::of(s);
     let mut number = 0u64;
+    // Counted by hand: a record that is cut off is answered too, so that the bytes and no Option end the loop.
     while !records.is_empty() {
         println!(rt; "plan\t{number}")?;
         answer_record(rt, &mut records)?;

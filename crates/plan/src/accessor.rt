@@ -19,7 +19,8 @@ fn line_at(s: &[u8], at: usize) -> &[u8]
     &s[at..end]
 }
 
-// A file whose first line has been read: its bytes, and what that line says.
+// A file whose first line has been read: its bytes, and what that line says. The lines behind it grow one by one and then
+// stand in another order, so that functions ask that they are this file's (`LinesIn`), and a `Plan` says it of them all.
 #[derive(Clone, Copy)]
 pub struct File<'a> {
     pub bytes: &'a [u8],

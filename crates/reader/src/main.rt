@@ -16,6 +16,7 @@ use text::number::read_number;
 // Prints a plan.
 fn show_plan(rt: &impl Print, plan: &Plan) -> io::Result<()> {
     println!(rt; "{}", FirstLine(&plan.header))?;
+    // By place: an activity is read from its line when it is asked for, so that there is no slice of them.
     for place in 0..plan.count() {
         println!(rt; "{}", ActivityLine(&plan.activity(place)))?;
     }
@@ -26,7 +27,7 @@ fn show_plan(rt: &impl Print, plan: &Plan) -> io::Result<()> {
 fn show_reading(rt: &impl Print, file: &[u8]) -> io::Result<()> {
     match plan::read(file) {
         Ok(plan) => show_plan(rt, &plan),
-        Err(refusal) => println!(rt; "no\t{}\t{}", u32::from(refusal.fault), refusal.line),
+        Err(refusal) => println!(rt; "{refusal}"),
     }
 }
 
@@ -41,6 +42,7 @@ fn next_file<'a>(files: &mut Records<'a>) -> Option<&'a [u8]>
 // Prints what each file of s says.
 fn show_files(rt: &impl Print, s: &[u8]) -> io::Result<()> {
     let mut files = Records::of(s);
+    // No iterator: a file is taken in two steps, its length and its bytes, and either of them may end the files.
     while let Some(file) = next_file(&mut files) {
         show_reading(rt, file)?;
     }

@@ -1,8 +1,12 @@
 #![tactic(auto)]
 // The numbers and types that the planner's crates share, and the warm-up table.
-ghost use Rattle.std.specs.Prelude.{◌≡◌};
+ghost use Rattle.std.specs.Prelude.{◌≡◌, ◌∷◌, ◌++◌, Some};
+ghost use Rattle.std.specs.Fmt.{decimal};
+ghost use Rattle.rules.specs.Bytes.{bytes};
 ghost use Rattle.rules.specs.Refusals.{number_of};
 ghost use Rattle.rules.specs.Warmup.{warmup_at};
+
+use std::fmt::{self, Display};
 
 // The most activities that a plan has, and so the most places.
 pub const PLACES: usize = 64;
@@ -76,6 +80,15 @@ impl From<Fault> for Refusal {
 
     fn from(fault: Fault) -> Refusal {
         Refusal { fault, line: 0 }
+    }
+}
+
+// Document 01's line of a refusal, without its LF, for the programs that print. `report` writes the same into bytes.
+impl Display for Refusal {
+    ghost output = { λ refused. Some (bytes "no" ++ 9 ∷ decimal (number_of refused.fault) ++ 9 ∷ decimal refused.line) };
+
+    fn fmt<W: fmt::Write>(&self, f: &mut fmt::Formatter<W>) -> fmt::Result {
+        write!(f, "no\t{}\t{}", u32::from(self.fault), self.line)
     }
 }
 

@@ -6,7 +6,8 @@ use crate::number::put_number;
 use items::List;
 use std::marker::Model;
 
-// At most N bytes. Clauses see the list of those written.
+// At most N bytes. Clauses see the list of those written. A struct around a `List`, since only a type's own crate gives it
+// methods.
 #[derive(Drop)]
 pub struct Bytes<const N: usize> {
     written: List<u8, N>,

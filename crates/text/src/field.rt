@@ -3,7 +3,8 @@ ghost use Rattle.std.specs.Prelude.{◌≡◌, [], ◌+◌, ◌≤◌, length, g
 ghost use Rattle.rules.specs.Lines.{split_on};
 ghost use Rattle.text.specs.Text.{index_of};
 
-// The next position of b at or after from, or the length.
+// The next position of b at or after from, or the length: a text's last part ends there, and `plan` cuts a line before it
+// tests that a byte ends it.
 pub fn find(s: &[u8], from: usize, b: u8) -> usize
     requires { from ≤ length s.now }
     ensures value { result ≡ from + index_of b (drop from s.now) }

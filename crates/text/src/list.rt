@@ -12,8 +12,8 @@ use items::{Item, Items};
 use rules::Fault;
 
 // A kind of list: the byte inside an item of two numbers; the greatest first and second number; and whether an item spans
-// its first to its second number, so that the next begins behind the second. `spans` is a fact of the kind, as the mark is: no
-// function is asked by it to do one thing or another.
+// its first to its second number, so that the next begins behind the second. `spans` picks, in `count_in`
+// alone, which number the next item must pass; a closure in its place would be carried through `Fields::list`.
 #[derive(Clone, Copy)]
 pub struct Form {
     pub mark: Option<u8>,
@@ -104,8 +104,7 @@ pub fn read_list<const N: usize>(s: &[u8], form: Form) -> Result<Items<N>, Fault
         least: 0,
         items: Items::new(),
     };
-    let mut parts = Parts::of(s, b',');
-    while let Some(part) = parts.next() {
+    for part in Parts::of(s, b',') {
         let Some((a, b)) = read_item(part, form.mark) else {
             return Err(Fault::Malformed);
         };

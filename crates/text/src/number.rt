@@ -4,7 +4,7 @@ ghost use Rattle.rules.specs.Number.{decimal};
 ghost use Rattle.text.specs.Text.{number_of, put};
 ghost use Rattle.text.specs.Cursor.{digits_from};
 
-// The value of s, where each byte is a digit.
+// The value of s, where each byte is a digit. By hand: `parse` wants a `str`, and takes a `+` before the digits.
 fn digits(s: &[u8]) -> Option<u64>
     requires { length s.now ≤ 10 }
     ensures { result ≡ digits_from 0 s.now }
@@ -42,7 +42,8 @@ pub fn decimal_len(x: u64) -> usize
     x.max(1).ilog10() as usize + 1
 }
 
-// Writes the digits of x from at on, and answers the position after them.
+// Writes the digits of x from at on, and answers the position after them: 00455d2's form, called by `Bytes::push_number`
+// alone. By hand: `write!` answers a Result, and a law would have to say that std's digits are those of `rules`.
 pub fn put_number(out: &mut [u8], at: usize, x: u64) -> usize
     requires { at + length (decimal x) ≤ length out.old }
     ensures value { result ≡ at + length (decimal x) }

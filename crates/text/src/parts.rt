@@ -1,12 +1,13 @@
 // The parts of a text between the bytes of a kind, one after the other.
 ghost use Rattle.std.specs.Prelude.{◌≡◌, [], ◌∷◌, MatchOption};
+ghost use Rattle.std.specs.Iterator.{YieldsFirstRef, item_count};
 ghost use Rattle.rules.specs.Lines.{split_on};
 
 use crate::field::find;
 use std::marker::Model;
 
 // The parts that are still to come, between the bytes `by`. Clauses see their list. `slice::split` gives the same, but a loop over
-// it gets no proof in a function with a const parameter.
+// it got no proof in a function with a const parameter.
 #[derive(Drop)]
 pub struct Parts<'a> {
     rest: Option<&'a [u8]>,
@@ -30,11 +31,16 @@ impl<'a> Parts<'a> {
     {
         Parts { rest: Some(s), by }
     }
+}
 
-    // The next part, if there is one.
-    pub fn next(&mut self) -> Option<&'a [u8]>
-        ensures { MatchOption result ((self.old ≡ []) × (self.new ≡ [])) (λ part. self.old ≡ part.now ∷ self.new) }
-    {
+impl<'a> Iterator for Parts<'a> {
+    type Item = &'a [u8];
+
+    ghost next_gives = { YieldsFirstRef (λ parts. parts) };
+
+    ghost remaining = { item_count (λ parts. parts) };
+
+    fn next(&mut self) -> Option<&'a [u8]> {
         let rest = self.rest?;
         let end = find(rest, 0, self.by);
         if end == rest.len() {

@@ -1,7 +1,8 @@
 -- `list::read_list` meets its contract: the parts that are left, after what was counted in, give the whole.
-use Rattle.std.proofs.Common.{◌∙◌, sym, refl}
+use Rattle.std.proofs.Common.{◌≡◌, ◌∙◌, sym, refl, rules}
 use Rattle.rules.specs.Bytes.{bytes}
 use Rattle.rules.specs.Fields.{list_field}
+use Rattle.rules.specs.Lines.{split_on}
 use Rattle.rules.specs.Refusals.{read_as}
 use Rattle.text.specs.Text.{kind_of}
 use Rattle.text.proofs.Same.{same_is}
@@ -15,14 +16,16 @@ returns-then-eq g c = rw (c.new.ensures, same_is c.args.s.now (bytes "-"), ← c
 
 pub loop-part-init : goal.loop-part-init
 unfolding list_field
-loop-part-init g c = rw (c.new-2.ensures, c.of-parts.ensures, same_is c.args.s.now (bytes "-"), ← c.as_slice.ensures, ← c.if-eq.ensures) (from_start (kind_of c.args.form g.row.N) _)
+loop-part-init g c =
+    let parts : c.into_iter-part-iterator.result ≡ split_on 44 c.args.s.now = search rules in
+    rw (c.new-2.ensures, parts, same_is c.args.s.now (bytes "-"), ← c.as_slice.ensures, ← c.if-eq.ensures) (from_start (kind_of c.args.form g.row.N) _)
 
-pub returns-in_default-read_item : goal.returns-in_default-read_item
+pub returns-in_default : goal.returns-in_default
 unfolding read_as
-returns-in_default-read_item g c =
-    sym (c.loop-part.invariant ∙ rw c.in-Some.ensures (from_bad (kind_of c.args.form g.row.N) _ _ _ _ _ (item_bad _ _ (sym c.in_default-read_item.ensures))))
+returns-in_default g c =
+    sym (c.loop-part.invariant ∙ rw c.in-Some.ensures.steps (from_bad (kind_of c.args.form g.row.N) _ _ _ _ _ (item_bad _ _ (sym c.in_default.ensures))))
 
 pub loop-part-preserved : goal.loop-part-preserved
 loop-part-preserved g c =
     let one = item_good _ _ _ _ (sym c.in-Some-read_item.ensures) in
-    rw (← c.count_in.ensures _ _ one.0 one.1, ← c.in-Some.ensures) c.loop-part.invariant
+    rw (← c.count_in.ensures _ _ one.0 one.1, ← c.in-Some.ensures.steps) c.loop-part.invariant
