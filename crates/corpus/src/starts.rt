@@ -49,10 +49,11 @@ fn answer_starts(rt: &impl Print, plan: &[u8], place: usize, set: u32) -> io::Re
     check_left(rt, &firsts, &lasts, count)
 }
 
-// Prints them for the first `sets` sets.
+// Prints them for the first `sets` sets, behind the last for no condition.
 pub fn answer_sets(rt: &impl Print, plan: &[u8], place: usize, sets: u64) -> io::Result<()> {
-    for (_, set) in (0..sets).zip(&SETS) {
-        answer_starts(rt, plan, place, *set)?;
+    for k in 0..sets {
+        let set = SETS.get(k as usize).copied().unwrap_or(0);
+        answer_starts(rt, plan, place, set)?;
     }
     Ok(())
 }
