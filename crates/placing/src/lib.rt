@@ -11,12 +11,13 @@ pub use next::{Placing, place_next};
 use plan::Plan;
 use rules::{Outcome, TICKS};
 
-// Answers the first k places in order, where none is gone through yet. What comes of them is lent, since its copies would
+// Answers the first k places in order, beginning with nothing placed. What comes of them is lent, since its copies would
 // stand on the stack beside those of the conditions.
 pub fn place_to(plan: &Plan, k: usize, placing: &mut Placing, table: &mut [u16; TICKS])
-    requires { (k ≤ length (plan_view plan.now).activities) × (placing.old.placed.count ≡ 0) }
+    requires { k ≤ length (plan_view plan.now).activities }
     ensures { PlacedTo plan.now k placing.new }
 {
+    placing.placed.count = 0;
     // By number: `place_next` takes the number of its place.
     for place in 0..k {
         place_next(plan, place, placing, table);
