@@ -6,7 +6,7 @@ ghost use Rattle.rules.specs.Reading.{accepted, reading};
 ghost use Rattle.activity.specs.View.{header_view};
 ghost use Rattle.plan.specs.Said.{LinesIn, plan_of, in_order};
 
-mod accessor;
+pub mod accessor;
 mod after;
 mod file;
 mod reading;
