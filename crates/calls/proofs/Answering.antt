@@ -17,7 +17,7 @@ use Rattle.rules.specs.Calls.{refusal, full, outcome_values, outcome_terms, refu
 use Rattle.rules.proofs.Ordered.{same_outcome, same_count, same_report, same_runs}
 use Rattle.plan.specs.View.{plan_view}
 use Rattle.plan.specs.declared.Plan.{Plan as PlanStruct}
-use Rattle.plan.proofs.Accepted.{accepted_as}
+use Rattle.plan.proofs.Accepted.{AcceptedAs}
 use Rattle.calls.specs.Called.{OutcomeCalled}
 
 -- the bytes are refused
@@ -38,38 +38,38 @@ module _ (s : List ℕ) (q : Refusal) (e : reading s ≡ refused q) where
   unfolding output answer_to
   output_refused = rw e
 
--- they are those of an accepted plan
-module _ (p : PlanStruct) where
-  count_is : length (plan_view p).activities ≡ length (accepted_as p).plan.activities
-  count_is = ap (λ q. length q.activities) (accepted_as p).view ∙ same_count (accepted_as p).plan
+-- they are accepted as the plan that p holds
+module _ (s : List ℕ) (p : PlanStruct) (A : AcceptedAs s (plan_view p)) where
+  count_is : length (plan_view p).activities ≡ length A.plan.activities
+  count_is = ap (λ q. length q.activities) A.view ∙ same_count A.plan
 
-  pub outcome_beyond : (place : ℕ) → length (plan_view p).activities ≤ place → outcome_call p.bytes.now place ≡ refusal 11 0
+  pub outcome_beyond : (place : ℕ) → length (plan_view p).activities ≤ place → outcome_call s place ≡ refusal 11 0
   unfolding outcome_call outcome_of
-  outcome_beyond place h = rw ((accepted_as p).read, ← count_is, le-leb _ _ h)
+  outcome_beyond place h = rw (A.read, ← count_is, le-leb _ _ h)
 
-  pub outcome_answered : (place : ℕ) → place < length (plan_view p).activities → outcome_call p.bytes.now place ≡ full (outcome_values (outcome (plan_view p) place))
+  pub outcome_answered : (place : ℕ) → place < length (plan_view p).activities → outcome_call s place ≡ full (outcome_values (outcome (plan_view p) place))
   unfolding outcome_call outcome_of
-  outcome_answered place h = let A = accepted_as p in rw (A.read, ← count_is, lt-leb _ _ h, A.view, same_outcome A.plan place)
+  outcome_answered place h = rw (A.read, ← count_is, lt-leb _ _ h, A.view, same_outcome A.plan place)
 
-  pub report_answered : (room : ℕ) → report_call p.bytes.now room ≡ filling room (report (plan_view p))
+  pub report_answered : (room : ℕ) → report_call s room ≡ filling room (report (plan_view p))
   unfolding report_call report_of
-  report_answered room = let A = accepted_as p in rw (A.read, A.view, same_report A.plan)
+  report_answered room = rw (A.read, A.view, same_report A.plan)
 
-  pub output_answered : output p.bytes.now ≡ report (plan_view p)
+  pub output_answered : output s ≡ report (plan_view p)
   unfolding output answer_to
-  output_answered = let A = accepted_as p in rw (A.read, A.view, same_report A.plan)
+  output_answered = rw (A.read, A.view, same_report A.plan)
 
-  pub starts_beyond : (place m room : ℕ) → length (plan_view p).activities ≤ place → starts_call p.bytes.now place m room ≡ refusing 11 0
+  pub starts_beyond : (place m room : ℕ) → length (plan_view p).activities ≤ place → starts_call s place m room ≡ refusing 11 0
   unfolding starts_call starts_of
-  starts_beyond place m room h = rw ((accepted_as p).read, ← count_is, le-leb _ _ h)
+  starts_beyond place m room h = rw (A.read, ← count_is, le-leb _ _ h)
 
-  pub starts_no_set : (place m room : ℕ) → place < length (plan_view p).activities → all_conditions < m → starts_call p.bytes.now place m room ≡ refusing 12 0
+  pub starts_no_set : (place m room : ℕ) → place < length (plan_view p).activities → all_conditions < m → starts_call s place m room ≡ refusing 12 0
   unfolding starts_call starts_of
-  starts_no_set place m room h l = rw ((accepted_as p).read, ← count_is, lt-leb _ _ h, lt-ltb _ _ l)
+  starts_no_set place m room h l = rw (A.read, ← count_is, lt-leb _ _ h, lt-ltb _ _ l)
 
-  pub starts_answered : (place m room : ℕ) → place < length (plan_view p).activities → m ≤ all_conditions → starts_call p.bytes.now place m room ≡ filling room (runs (plan_view p) place m)
+  pub starts_answered : (place m room : ℕ) → place < length (plan_view p).activities → m ≤ all_conditions → starts_call s place m room ≡ filling room (runs (plan_view p) place m)
   unfolding starts_call starts_of
-  starts_answered place m room h l = let A = accepted_as p in rw (A.read, ← count_is, lt-leb _ _ h, le-ltb _ _ l, A.view, same_runs A.plan place m)
+  starts_answered place m room h l = rw (A.read, ← count_is, lt-leb _ _ h, le-ltb _ _ l, A.view, same_runs A.plan place m)
 
 -- ---- an answer of outcome
 pub outcome_err : (s : List ℕ) (q : RefusalStruct) (place : ℕ) → outcome_call s place ≡ refusal (number_of q.fault) q.line → OutcomeCalled s place (Err q)

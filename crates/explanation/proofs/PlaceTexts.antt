@@ -22,7 +22,7 @@ use Rattle.placing.specs.Places.{TableAt}
 use Rattle.placing.proofs.ByPlace.{runs_are}
 use Rattle.schedule.specs.Search.{meets_in}
 use Rattle.schedule.proofs.Tabled.{first_runs}
-use Rattle.plan.proofs.Accepted.{accepted_as}
+use Rattle.plan.proofs.Accepted.{AcceptedAs}
 use Rattle.rules.specs.Refusals.{Refusal}
 use Rattle.rules.specs.Reading.{refused, reading}
 use Rattle.refusal.specs.Refused.{refused_text}
@@ -81,10 +81,10 @@ module _ (p : Plan) where
   unfolding accepted_text
   accepted_ordered = rw (same_count p, places_ordered (length p.activities))
 
--- the text of a plan's bytes is that of their plan
-pub explained_accepted : (p : PlanStruct) → explained p.bytes.now ≡ accepted_text (plan_view p)
+-- the text of accepted bytes is that of their plan
+pub explained_accepted : (s : List ℕ) (p : PlanStruct) → AcceptedAs s (plan_view p) → explained s ≡ accepted_text (plan_view p)
 unfolding explained explained_as
-explained_accepted p = let A = accepted_as p in rw (A.read, A.view) (sym (accepted_ordered A.plan))
+explained_accepted s p A = rw (A.read, A.view) (sym (accepted_ordered A.plan))
 
 pub explained_refused : (s : List ℕ) (q : Refusal) → reading s ≡ refused q → explained s ≡ refused_text s q
 unfolding explained explained_as

@@ -27,6 +27,7 @@ use Rattle.activity.specs.View.{header_view, activity_view}
 use Rattle.activity.specs.declared.Activity.{Activity as ActivityStruct}
 use Rattle.plan.specs.View.{plan_view}
 use Rattle.plan.specs.declared.Plan.{Plan as PlanStruct}
+use Rattle.plan.proofs.Places.{placeable}
 use Rattle.sets.specs.Table.{Table}
 use Rattle.placed.specs.declared.row.Row.{Row}
 use Rattle.placed.specs.Written.{SameBelow}
@@ -38,7 +39,6 @@ use Rattle.schedule.specs.Search.{meets_in}
 use Rattle.schedule.proofs.Tabled.{table_runs, first_runs}
 use Rattle.placing.specs.declared.next.Placing.{Placing}
 use Rattle.placing.specs.Places.{PlacedTo, TableAt}
-use Rattle.placing.proofs.Accepted.{placeable}
 
 -- ---- nothing placed, and one more rightly answered
 reached_none : (h : Header) → HeaderFormed h → pos h.handover ≤ℤ charge h [] h.horizon → Reached h []

@@ -1,7 +1,5 @@
--- The places of an accepted plan; what is placed at the first ones, and their answers, as the code holds them.
-use Rattle.std.specs.Prelude.{ℕ, ◌<◌, ◌≤◌, ◌≡◌, List, length, get_or}
-use Rattle.rules.specs.Order.{order}
-use Rattle.rules.specs.WellFormed.{HeaderFormed, ActivityFormed, Reachable}
+-- The places of a plan: what is placed at the first ones, and their answers, as the code holds them.
+use Rattle.std.specs.Prelude.{ℕ, ◌<◌, ◌≤◌, ◌≡◌, List, get_or}
 use Rattle.rules.specs.Conditions.{meets}
 use Rattle.rules.specs.Outcomes.{starts, activity_at, placed, outcome}
 use Rattle.rules.specs.declared.Outcome.TheVariants.{Placed}
@@ -10,14 +8,6 @@ use Rattle.plan.specs.declared.Plan.{Plan as PlanStruct}
 use Rattle.placed.specs.Held.{Held, Reached}
 use Rattle.sets.specs.Table.{Table}
 use Rattle.placing.specs.declared.next.Placing.{Placing}
-
--- what an accepted plan is, its activities by place
-pub record Placeable (p : PlanStruct) : Type 0 where
-  pub few : length (plan_view p).activities ≤ 64
-  pub header : HeaderFormed (plan_view p).header
-  pub each : (k : ℕ) → k < length (plan_view p).activities → ActivityFormed (plan_view p).header (activity_at (plan_view p) k)
-  pub ordered : order (plan_view p).activities ≡ (plan_view p).activities
-  pub reachable : Reachable (plan_view p)
 
 -- the first k places are answered, and what they place is placed
 pub record PlacedTo (p : PlanStruct) (k : ℕ) (x : Placing) : Type 0 where

@@ -19,9 +19,7 @@ use Rattle.line.specs.Formed.{is_formed}
 use Rattle.order.specs.Lines.{order_lines}
 use Rattle.order.specs.declared.Line.{Line}
 use Rattle.plan.specs.Said.{said_by, LinesIn, plan_of, in_order}
-use Rattle.plan.specs.View.{plan_view}
 use Rattle.plan.specs.Reading.{reading_view}
-use Rattle.plan.specs.declared.Plan.{Plan as PlanStruct}
 use Rattle.plan.specs.Reached.{lines_from, lines_view, first_from}
 use Rattle.plan.proofs.Ordering.{view_order}
 use Rattle.plan.proofs.Cutting.{line_with, lines_next, lines_last, not_ended, line_fields}
@@ -31,11 +29,6 @@ use Rattle.plan.proofs.Lining.{form_is, form_not}
 pub refused_view : (q : Refusal) → reading_view (Err q) ≡ no (number_of q.fault) q.line
 unfolding reading_view refusal_view
 refused_view q = refl
-
--- and a plan
-pub accepted_view : (p : PlanStruct) → reading_view (Ok p) ≡ in_order (reading p.bytes.now)
-unfolding reading_view plan_view
-accepted_view p = sym p.is_accepted
 
 -- ---- once all lines are read
 

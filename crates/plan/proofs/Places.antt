@@ -7,8 +7,13 @@ use Rattle.activity.specs.View.{header_view}
 use Rattle.order.specs.declared.Line.{Line}
 use Rattle.plan.specs.Said.{said_by}
 use Rattle.plan.specs.View.{plan_view}
+use Rattle.plan.specs.Placeable.{Placeable}
 use Rattle.plan.specs.declared.Plan.{Plan as PlanStruct}
-use Rattle.plan.proofs.Accepted.{stands_ordered}
+
+-- a plan that is held can be placed
+pub placeable : (p : PlanStruct) → Placeable (plan_view p)
+unfolding plan_view
+placeable p = p.is_placeable
 
 pub place_count : (p : PlanStruct) → length (plan_view p).activities ≡ length p.lines
 unfolding plan_view
@@ -20,4 +25,4 @@ place_at p k d h = get_or-map (said_by (header_view p.header) p.bytes.now) p.lin
 
 pub place_is : (p : PlanStruct) (k : ℕ) (d : Line) → k < length p.lines → activity_at (plan_view p) k ≡ said_by (header_view p.header) p.bytes.now (slice_index_or p.lines k d)
 unfolding activity_at
-place_is p k d h = rw (stands_ordered p) (place_at p k d h)
+place_is p k d h = rw (placeable p).ordered (place_at p k d h)

@@ -1,10 +1,10 @@
 #![tactic(auto)]
 // A plan as the planner holds it, and its reading: what the file says, in the scheduling order, or its one refusal
 // (document 01, The plan file; When the planner says no).
-ghost use Rattle.std.specs.Prelude.{◌≡◌};
-ghost use Rattle.rules.specs.Reading.{accepted, reading};
 ghost use Rattle.activity.specs.View.{header_view};
-ghost use Rattle.plan.specs.Said.{LinesIn, plan_of, in_order};
+ghost use Rattle.plan.specs.Said.{LinesIn, plan_of};
+ghost use Rattle.plan.specs.Placeable.{Placeable};
+ghost use Rattle.plan.specs.Props.{placeable_prop};
 
 pub mod accessor;
 mod after;
@@ -15,13 +15,12 @@ use activity::Header;
 use order::Lines;
 pub use reading::read;
 
-// A plan file that is accepted: its bytes, its header, and for each place the line of its activity.
+// A plan that can be placed: the bytes of its file, its header, and for each place the line of its activity.
 #[derive(Drop)]
 pub struct Plan<'a> {
     pub bytes: &'a [u8],
     pub header: Header,
     pub lines: Lines,
     pub ghost said: { LinesIn (header_view header) bytes.now lines },
-    // That the whole file is accepted follows from no other field: the calls rest on it, and `read` alone makes a Plan.
-    pub ghost is_accepted: { in_order (reading bytes.now) ≡ accepted (plan_of (header_view header) bytes.now lines) },
+    pub ghost is_placeable: { Placeable (plan_of (header_view header) bytes.now lines) } by { placeable_prop _ },
 }

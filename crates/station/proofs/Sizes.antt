@@ -15,7 +15,8 @@ use Rattle.rules.specs.Lines.{behind, parted, line_of}
 use Rattle.rules.specs.Conditions.{all_conditions, has, condition_letters, letters_from, letters_of}
 use Rattle.rules.specs.MeetsB.{charge}
 use Rattle.rules.specs.MeetsV.{total_volume}
-use Rattle.rules.specs.Outcomes.{added, activity_at}
+use Rattle.rules.specs.Order.{order}
+use Rattle.rules.specs.Outcomes.{no_activity, added, activity_at}
 use Rattle.rules.specs.Reading.{Reading, accepted, refused, reading}
 use Rattle.rules.specs.WellFormed.{HeaderFormed, ActivityFormed, WellFormed}
 use Rattle.rules.specs.Faults.{FileFault, empty, plan_line, plan_field, activity, no_earlier, not_reachable, Fault, too_long, in_file}
@@ -29,12 +30,13 @@ use Rattle.rules.proofs.Accepted.{refused_fault, accepted_formed}
 use Rattle.rules.proofs.Demand.{demand3}
 use Rattle.rules.proofs.Decimal.{decimal_length}
 use Rattle.rules.proofs.Level.{charge_most}
+use Rattle.rules.proofs.ListAt.{at_mem}
 use Rattle.rules.proofs.Order.{order_length}
+use Rattle.rules.proofs.PlaceFacts.{order_mem}
 use Rattle.rules.proofs.Refusing.{reading_number}
 use Rattle.rules.proofs.SameRuns.{call_few}
 use Rattle.rules.proofs.Says.{either_way}
 use Rattle.rules.proofs.Signed.{signed}
-use Rattle.placing.proofs.Accepted.{each_formed}
 use Rattle.station.specs.Unpacking.{report_most, runs_most}
 
 -- ---- a refusal of the bytes: its line is at most that of the 65th activity
@@ -56,7 +58,7 @@ refusal_small s q e = (reading_number s q e, fault_line s q.number q.line (refus
 -- ---- the places of an accepted plan
 place_formed : (p : Plan) → WellFormed p → (k : ℕ) → k < length p.activities → ActivityFormed p.header (activity_at p k)
 unfolding activity_at
-place_formed p F k h = each_formed p F k (omega (arith, order_length p.activities))
+place_formed p F k h = F.each _ (order_mem p.activities (at_mem no_activity (order p.activities) k (omega (arith, order_length p.activities))))
 
 runs_few : (s : List ℕ) (p : Plan) → reading s ≡ accepted p → (k m : ℕ) → k < length p.activities → length (runs p k m) ≤ runs_most
 runs_few s p e k m h = let F = (accepted_formed s p e).0 in call_few p k m F.header.horizon.1 (place_formed p F k h).duration.0

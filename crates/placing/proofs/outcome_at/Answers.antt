@@ -1,6 +1,6 @@
 -- `outcome_at` meets its contract.
 use Rattle.std.proofs.Common.{arith}
-use Rattle.placing.proofs.Accepted.{placeable}
+use Rattle.plan.proofs.Places.{placeable}
 use Rattle.placing.proofs.outcome_at.Goals as goal
 
 pub overflow_add-k : goal.overflow_add-k

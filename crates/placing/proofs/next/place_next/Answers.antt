@@ -1,7 +1,7 @@
 -- `place_next` meets its contract.
 use Rattle.std.proofs.Common.{arith, rules, refl}
 use Rattle.activity.specs.View.{header_view, activity_view}
-use Rattle.placing.proofs.Accepted.{placeable}
+use Rattle.plan.proofs.Places.{placeable}
 use Rattle.placing.proofs.ByPlace.{header_formed, formed, beside, right, placed_next, table_is}
 use Rattle.placing.proofs.next.place_next.Goals as goal
 

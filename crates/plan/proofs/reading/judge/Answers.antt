@@ -1,15 +1,18 @@
 -- `reading::judge` meets its contract: check by check, the definition goes the same way.
-use Rattle.std.proofs.Common.{◌≡◌, ◌∙◌, [], map, sym, ap}
+use Rattle.std.proofs.Common.{◌≡◌, ◌∙◌, false, [], map, sym, ap}
 use Rattle.std.proofs.Math.Option.{none}
 use Rattle.std.specs.Option.{unwrap_or}
 use Rattle.std.proofs.lemmas.List.Elements.{All-contains}
-use Rattle.rules.specs.Reading.{misplaced, no}
+use Rattle.rules.specs.Reading.{accepted, misplaced, no, out_of_reach, reading}
 use Rattle.activity.specs.View.{header_view}
 use Rattle.order.specs.Lines.{order_lines}
-use Rattle.plan.specs.Said.{said_by, LineIn}
+use Rattle.plan.specs.Said.{said_by, LineIn, plan_of, in_order}
+use Rattle.plan.specs.View.{plan_view}
+use Rattle.plan.specs.Reading.{reading_view}
+use Rattle.plan.proofs.Accepted.{accepted_placeable}
 use Rattle.plan.proofs.Ids.{line_is, line_found}
 use Rattle.plan.proofs.Ordering.{order_in}
-use Rattle.plan.proofs.Judging.{refused_view, accepted_view, judged_7, judged_9, judged_on}
+use Rattle.plan.proofs.Judging.{refused_view, judged_7, judged_9, judged_on}
 use Rattle.plan.proofs.reading.judge.Goals as goal
 use Rattle.plan.proofs.reading.judge.Goals.{In_default}
 
@@ -38,14 +41,21 @@ returns-then-out_of_reach-clause-value c =
     let a = c.args in
     rw c.into.ensures (refused_view _) ∙ sym (c.requires.read ∙ judged_9 (header_view a.file.now.header) a.file.now.bytes.now a.lines c.requires.said (none_misplaced (goal.at.returns-then-out_of_reach-clause-value c).In_default) (sym c.out_of_reach.ensures ∙ c.if-out_of_reach.true))
 
+-- so they are accepted, by place
+on : (c : In_default) → out_of_reach (header_view c.args.file.now.header) ≡ false → in_order (reading c.args.file.now.bytes.now) ≡ accepted (plan_of (header_view c.args.file.now.header) c.args.file.now.bytes.now (order_lines c.args.lines))
+on c f =
+    let a = c.args in
+    c.requires.read ∙ judged_on (header_view a.file.now.header) a.file.now.bytes.now a.lines c.requires.said (none_misplaced c) f
+
 pub invariant_of-result : goal.invariant_of-result
 invariant_of-result c =
     let a = c.args in
     rw c.ordered-by_place.ensures.value
     (record {
       said = order_in (header_view a.file.now.header) a.file.now.bytes.now a.lines c.requires.said;
-      is_accepted = c.requires.read ∙ judged_on (header_view a.file.now.header) a.file.now.bytes.now a.lines c.requires.said (none_misplaced (goal.at.invariant_of-result c).In_default) (sym c.out_of_reach.ensures ∙ c.if-out_of_reach.false);
+      is_placeable = accepted_placeable a.file.now.bytes.now _ (on (goal.at.invariant_of-result c).In_default (sym c.out_of_reach.ensures ∙ c.if-out_of_reach.false));
     })
 
 pub returns-clause-value : goal.returns-clause-value
-returns-clause-value c = accepted_view _
+unfolding reading_view plan_view
+returns-clause-value c = rw c.ordered-by_place.ensures.value (sym (on (goal.at.returns-clause-value c).In_default (sym c.out_of_reach.ensures ∙ c.if-out_of_reach.false)))

@@ -4,8 +4,8 @@ use mathlib.Core.Path.{refl, ◌∙◌}
 use Rattle.rules.specs.Outcomes.{finished}
 use Rattle.rules.specs.Report.{report}
 use Rattle.plan.specs.View.{plan_view}
+use Rattle.plan.proofs.Places.{placeable}
 use Rattle.placed.proofs.Bounding.{amounts_bounded_lem}
-use Rattle.placing.proofs.Accepted.{placeable}
 use Rattle.report.proofs.LineByLine.{rows_say}
 use Rattle.report.proofs.whole.report_of.Goals as goal
 
