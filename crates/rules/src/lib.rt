@@ -74,7 +74,7 @@ pub struct Refusal {
     pub line: u32,
 }
 
-// The refusal of a call, which is no line's.
+// The refusal of no line.
 impl From<Fault> for Refusal {
     ghost from_gives = { λ fault refused. refused ≡ record { fault = fault; line = 0 } };
 
