@@ -42,8 +42,8 @@ pub fn decimal_len(x: u64) -> usize
     x.max(1).ilog10() as usize + 1
 }
 
-// Writes the digits of x from at on, and answers the position after them: 00455d2's form, called by `Bytes::push_number`
-// alone. By hand: `write!` answers a Result, and a law would have to say that std's digits are those of `rules`.
+// Writes the digits of x from at on, and answers the position after them. By hand: `write!` answers a Result, and a law
+// would have to say that std's digits are those of `rules`.
 pub fn put_number(out: &mut [u8], at: usize, x: u64) -> usize
     requires { at + length (decimal x) ≤ length out.old }
     ensures value { result ≡ at + length (decimal x) }
