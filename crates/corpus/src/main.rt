@@ -38,7 +38,7 @@ fn asked_in(line: &[u8]) -> Asked {
     }
 }
 
-// Prints the answers of the calls that take a place.
+// Prints the answers of the calls that take a place. The arguments stay apart, as the calls take them.
 fn answer_place(rt: &impl Print, plan: &[u8], place: usize, sets: u64) -> io::Result<()> {
     answer::put_outcome(rt, place, calls::outcome(plan, place))?;
     starts::answer_sets(rt, plan, place, sets)?;
@@ -72,7 +72,7 @@ fn answer_record(rt: &impl Print, records: &mut Records) -> io::Result<()>
 fn answer_records(rt: &impl Print, s: &[u8]) -> io::Result<()> {
     let mut records = Records::of(s);
     let mut number = 0u64;
-    // Counted by hand: a record that is cut off is answered too, so that the bytes and no Option end the loop.
+    // Counted by hand: a record that is cut off is answered too, so that the loop ends with the bytes.
     while !records.is_empty() {
         println!(rt; "plan\t{number}")?;
         answer_record(rt, &mut records)?;

@@ -49,7 +49,8 @@ fn answer_starts(rt: &impl Print, plan: &[u8], place: usize, set: u32) -> io::Re
     check_left(rt, &firsts, &lasts, count)
 }
 
-// Prints them for the first `sets` sets, behind the last for no condition.
+// Prints them for the first `sets` sets, behind the last for no condition. By number: a record may ask more sets than there
+// are, and std's `chain` and `repeat` are no plainer.
 pub fn answer_sets(rt: &impl Print, plan: &[u8], place: usize, sets: u64) -> io::Result<()> {
     for k in 0..sets {
         let set = SETS.get(k as usize).copied().unwrap_or(0);

@@ -35,7 +35,8 @@ fn follows(file: &File, line: Line, earlier: &[Line]) -> bool
     all_said(activity.after.as_slice(), earlier)
 }
 
-// The first of these lines of the file, by place, whose `after` names no activity at an earlier place.
+// The first of these lines of the file, by place, whose `after` names no activity at an earlier place. By a loop: the test
+// goes by the lines before, and `find` would hand the place on with the line.
 pub fn first_misplaced(file: &File, lines: &[Line]) -> Option<Line>
     requires { LinesIn (header_view file.now.header) file.now.bytes.now lines.now }
     ensures value { misplaced [] (map (said_by (header_view file.now.header) file.now.bytes.now) lines.now) ≡ as_option (option_map (said_by (header_view file.now.header) file.now.bytes.now) result) }

@@ -21,7 +21,7 @@ use text::field::find;
 use text::word::PLAN;
 
 // A plan file has at most this many bytes. `read` tests it once, and the three functions that need it ask for it:
-// `File` does not say it, since `Plan::activity` makes one, too, where it would have to be proved again.
+// `File` does not say it, since `Plan::activity` makes one, too, and a `Plan` does not say how long its bytes are.
 const MOST_BYTES: usize = 60000;
 
 // What the first line of s says, which ends at byte `end`.

@@ -100,7 +100,7 @@ pub fn put_end<const N: usize>(
     out.push(b"\n");
 }
 
-// Writes the line of a refused plan.
+// Writes the line of a refused plan. Not by the Display of `Refusal`, for which `Bytes` would have to be a writer of std's.
 #[tactic(auto, unfolding(crate::specs::Lines::no_text, rules::specs::Lines::line_of, rules::specs::Lines::parted, rules::specs::Lines::behind))]
 pub fn put_no<const N: usize>(out: &mut Bytes<N>, refused: Refusal)
     requires { length out.old + no_most ≤ N }

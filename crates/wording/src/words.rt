@@ -72,7 +72,8 @@ fn plan_field_words(field: u32) -> &'static [u8]
     }
 }
 
-// What this field of an activity's line must be, by its number in the same way.
+// What this field of an activity's line must be, by its number in the same way. A table of its own: the two have no row in
+// common.
 #[tactic(auto, unfolding(crate::specs::Words::act_field_words))]
 fn act_field_words(field: u32) -> &'static [u8]
     ensures { result.now ≡ act_field_words field }
