@@ -32,7 +32,7 @@ fn add_draw(draws: &mut [u32], own: OwnDraw)
     raise_ticks(draws, own.start, own.end, own.draw);
 }
 
-// Writes the draws of the placed in each tick over zeros: to a slice, as callers outside lend one.
+// Writes the draws of the placed in each tick over zeros: to a slice, since an array would ask more of callers.
 #[tactic(auto, using(crate::proofs::Drawn::drawn_none))]
 pub fn add_placed(header: Header, placed: &Placed, draws: &mut [u32])
     requires amounts_bounded { AmountsBounded placed.now.rows placed.now.count × (header.heater ≤ 1000000) }

@@ -37,8 +37,8 @@ pub fn judge_all(placed: &Placed, judged: &mut [Judged; PLACES])
     requires { placed.now.count < 64 }
     ensures { JudgedRight placed.now.rows placed.now.count (take placed.now.count judged.new) }
 {
-    // By the place: of what is written through a `zip` with `iter_mut` the invariant has only the pairs given, and the proof
-    // did not close.
+    // By the place: of what is written through a `zip` with `iter_mut` the invariant knows only the pairs that were given,
+    // and the proof did not close.
     for (p, row) in placed.entries().iter().enumerate() {
         judged[p] = judge(placed, row);
     }
