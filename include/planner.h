@@ -43,11 +43,11 @@ extern "C" {
 #define PLANNER_CAST(type, value) ((type)(value))
 #endif
 
-#define PLANNER_VERSION 1 /* the version of this header; planner_version() gives that of the library */
+#define PLANNER_VERSION 2 /* the version of this header; planner_version() gives that of the library */
 
 #define PLANNER_PLAN_MOST 60000    /* the most bytes of a plan; a longer one is refused */
 #define PLANNER_ACTIVITIES_MOST 64 /* the most activities of a plan */
-#define PLANNER_REPORT_MOST 1568   /* bytes: room enough for every report */
+#define PLANNER_REPORT_MOST 1584   /* bytes: room enough for every report */
 #define PLANNER_RUNS_MOST 2048     /* records: room enough for every list of runs */
 #define PLANNER_STACK_MOST 131072  /* bytes of stack that are enough for every call */
 
@@ -105,7 +105,8 @@ uint32_t planner_version(void);
 uint64_t planner_outcome(const uint8_t *plan, size_t plan_length, size_t place);
 
 /* The report of the plan: a line for each place, place 0 first, then the end line, in ASCII, each ended by LF; no NUL
- * behind them.
+ * behind them. The end line has seven fields: the word "end", how many are placed, how many are refused, the charge at
+ * the horizon, the volume placed, the lowest charge at ticks 0 to the horizon, and the first tick that has it.
  *
  *   plan, plan_length  the plan
  *   out, out_length    the slice lent, in bytes; PLANNER_REPORT_MOST are always enough

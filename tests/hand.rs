@@ -3,8 +3,10 @@
 use differential::calls::{outcome, output, report, starts};
 use differential::cases::{cases, tabs, EXAMPLE};
 use differential::conditions::warm_up;
+use differential::demand::check_report;
 use differential::placing::Outcome;
 use differential::reading::{read, refuse};
+use differential::tally::Tally;
 
 #[test]
 fn outputs_of_the_cases() {
@@ -95,4 +97,32 @@ fn charge_is_judged_alone() {
     assert_eq!(starts(&plan, 0, 64, 9).unwrap(), [(0, 3)]);
     assert_eq!(starts(&plan, 0, 256, 9).unwrap(), [(4, 9)]);
     assert_eq!(starts(&plan, 0, 320, 9).unwrap(), []);
+}
+
+// What the check says of a plan whose report has another end line.
+fn checked(plan: &str, lines: &str, end: &str) -> Result<(), String> {
+    let plan = read(&tabs(plan)).unwrap();
+    check_report(&plan, &tabs(&format!("{lines}{end}\n")), &mut Tally::default()).map(|_| ())
+}
+
+// The charge is 40 at tick 0 and 46 at tick 10, 36 35 34 35 at ticks 15 to 18, and 37 at T.
+#[test]
+fn the_check_finds_a_wrong_lowest_charge() {
+    let lines = "7 placed 10 15\n8 refused WD\n9 refused V\n10 placed 15 17\n";
+    let said = |end: &str| checked(EXAMPLE, lines, end);
+    assert_eq!(said("end 2 2 37 50 34 17"), Ok(()));
+    for wrong in ["34 16", "34 18", "34 0", "34 20", "34 21", "34 -1", "33 17", "35 17", "35 16", "40 0", "37 20"] {
+        assert!(said(&format!("end 2 2 37 50 {wrong}")).is_err(), "{wrong}");
+    }
+    for wrong in ["", " 34", " 34 17 17", " 17 34"] {
+        assert!(said(&format!("end 2 2 37 50{wrong}")).is_err(), "{wrong}");
+    }
+}
+
+// The charge is 20 22 24 26 20 22 24.
+#[test]
+fn the_check_finds_a_later_tick() {
+    let plan = "plan 6 840 100 0 20 2 0 0 0 0 0\nact 1 1 1 3 - - - - - 0 0 8 0 0\n";
+    assert_eq!(checked(plan, "1 placed 3 4\n", "end 1 0 24 0 20 0"), Ok(()));
+    assert!(checked(plan, "1 placed 3 4\n", "end 1 0 24 0 20 4").is_err());
 }

@@ -15,7 +15,7 @@
 #define GUARD 64  /* guard bytes or records before and behind each slice */
 #define FILL 0xa5 /* what they hold, and the slices before a call */
 
-#define LONGEST_REPORT 1503 /* bytes of the longest report that a plan can have (tests/README.md says why) */
+#define LONGEST_REPORT 1518 /* bytes of the longest report that a plan can have (tests/README.md says why) */
 #define MOST_RUNS 98        /* the most runs that we could make (tests/README.md says how) */
 
 /* The first line of the worked plan and its second, with some fields to be put in. */
@@ -26,7 +26,7 @@
 #define A A_WITH("7", "-", "-")
 
 static const char worked_report[] =
-    "7\tplaced\t10\t15\n8\trefused\tWD\n9\trefused\tV\n10\tplaced\t15\t17\nend\t2\t2\t37\t50\n";
+    "7\tplaced\t10\t15\n8\trefused\tWD\n9\trefused\tV\n10\tplaced\t15\t17\nend\t2\t2\t37\t50\t34\t17\n";
 
 /* Document 01's words for the refusals, with "charge at horizon T" for c(T). */
 static const char *const refusal_texts[] = {
@@ -306,13 +306,26 @@ static void conditions_apart(void)
     }
 }
 
+/* The lowest charge at the horizon alone, and at ticks 6 and 11: 45 at tick 5 and 30 at 6, 34 at 10 and 30 at 11. */
+static void lowest_charge(void)
+{
+    static const char at_horizon[] = P "act\t1\t0\t1\t19\t-\t-\t-\t-\t-\t0\t0\t30\t0\t0\n";
+    static const char at_two[] = P "act\t1\t0\t1\t10\t-\t-\t-\t-\t-\t0\t0\t5\t0\t0\n"
+        "act\t2\t0\t1\t5\t-\t-\t-\t-\t-\t0\t0\t16\t0\t0\n";
+
+    set_plan(at_horizon, strlen(at_horizon));
+    CHECK(is_report("1\tplaced\t19\t20\nend\t1\t0\t30\t0\t30\t20\n", PLANNER_REPORT_MOST));
+    set_plan(at_two, strlen(at_two));
+    CHECK(is_report("1\tplaced\t10\t11\n2\tplaced\t5\t6\nend\t2\t0\t39\t0\t30\t6\n", PLANNER_REPORT_MOST));
+}
+
 /* The longest report into as many bytes, and into one less. */
 static void longest_report(const char *text, size_t length)
 {
     char expected[LONGEST_REPORT + 1], *end = expected;
     for (int k = 0; k < PLANNER_ACTIVITIES_MOST; k++)
         end += sprintf(end, "%d\tplaced\t%d\t%d\n", 10000 + k, 1000 + k, 1001 + k);
-    end += sprintf(end, "end\t64\t0\t1000000000\t1000000000\n");
+    end += sprintf(end, "end\t64\t0\t1000000000\t1000000000\t999999999\t1001\n");
     CHECK(end == expected + LONGEST_REPORT);
 
     set_plan(text, length);
@@ -394,7 +407,7 @@ static void edges(void)
     CHECK(warms_up(24, 16) && warms_up(0, 14) && warms_up(287, 13));
     /* 6, 7, 9 */
     set_plan(handover_60, strlen(handover_60));
-    CHECK(is_report("end\t0\t0\t60\t0\n", PLANNER_REPORT_MOST));
+    CHECK(is_report("end\t0\t0\t60\t0\t40\t0\n", PLANNER_REPORT_MOST));
     set_plan(equally_near, strlen(equally_near));
     CHECK(is_placed(outcome(0), 8));
     CHECK(may_draw(21) && !may_draw(22));
@@ -455,6 +468,7 @@ int main(int count, char **words)
     refusals_of_the_plan();
     five_runs();
     conditions_apart();
+    lowest_charge();
     longest_report(text, read_plan(words[2], text, sizeof text));
     most_runs(text, read_plan(words[3], text, sizeof text));
     size_t length = read_plan(words[1], text, sizeof text);

@@ -169,8 +169,24 @@ static void check_report(const struct plan *plan, const uint8_t *text, size_t le
     ensure(room < length ? other.number == 10 : other.value == length, "a report fits or doesn't");
 }
 
+// The lowest charge of an end line keeps the floor. It is at most the first charge, which it is at tick 0 alone, and at
+// most the charge at the horizon, up to which the charge rises by at most the rate a tick.
+static void check_lowest(const struct plan *plan, const struct line *end) {
+    struct line header;
+    part_line(plan->bytes, plan->length, 0, &header);
+    ensure(header.count == 12, "a first line has 12 fields");
+    uint32_t horizon = number_of(header.fields[1]), first = number_of(header.fields[5]);
+    uint32_t last = number_of(end->fields[3]), lowest = number_of(end->fields[5]), tick = number_of(end->fields[6]);
+    ensure(number_of(header.fields[4]) <= lowest, "the lowest charge keeps the floor");
+    ensure(lowest <= first && lowest <= last, "the first charge and the last aren't under the lowest");
+    ensure((tick == 0) == (lowest == first), "the lowest charge is the first at tick 0 alone");
+    ensure(tick <= horizon, "the lowest charge is one of the plan's ticks");
+    uint64_t most = lowest + (uint64_t)number_of(header.fields[6]) * (horizon - tick);
+    ensure(last <= most, "the charge rises by the rate at most");
+}
+
 // The end line counts the lines before it.
-static void check_end(const uint8_t *text, size_t length, size_t count) {
+static void check_end(const struct plan *plan, const uint8_t *text, size_t length, size_t count) {
     size_t placed = 0;
     struct line line;
     for (size_t place = 0; place < count; place++) {
@@ -180,8 +196,9 @@ static void check_end(const uint8_t *text, size_t length, size_t count) {
         placed += is_placed;
     }
     part_line(text, length, count, &line);
-    ensure(line.count == 5 && strcmp(line.fields[0], "end") == 0, "the last line is the end");
+    ensure(line.count == 7 && strcmp(line.fields[0], "end") == 0, "the last line is the end");
     ensure(number_of(line.fields[1]) == placed && number_of(line.fields[2]) == count - placed, "the end counts");
+    check_lowest(plan, &line);
 }
 
 // The outcome of a place is what its line says.
@@ -305,7 +322,7 @@ static void check_accepted(const struct plan *plan, const uint8_t *text, size_t 
     size_t count = count_lines(plan->bytes, plan->length) - 1;
     ensure(length > 0 && text[length - 1] == '\n', "a report ends in LF");
     ensure(count <= 64 && count_lines(text, length) == count + 1, "a report has a line for each place");
-    check_end(text, length, count);
+    check_end(plan, text, length, count);
     check_report(plan, text, length, room);
     check_beyond(plan, count, place, set);
     struct line line;

@@ -1,7 +1,7 @@
 // The calls of document 01 and the program's output.
 
 use crate::conditions::LETTERS;
-use crate::placing::{charge_at_end, meeting, runs, schedule, Outcome, Schedule, ALL};
+use crate::placing::{last_and_lowest, meeting, runs, schedule, Outcome, Schedule, ALL};
 use crate::plan::Plan;
 use crate::reading::{read, refuse, Refusal};
 
@@ -82,8 +82,8 @@ pub fn report_of(plan: &Plan, schedule: &Schedule) -> Vec<u8> {
     }
     let placed = schedule.placed.len();
     let refused = schedule.places.len() - placed;
-    let charge = charge_at_end(plan, &schedule.placed);
+    let (charge, lowest, tick) = last_and_lowest(plan, &schedule.placed);
     let volume: i64 = schedule.placed.iter().map(|p| p.activity.volume).sum();
-    text += &format!("end\t{placed}\t{refused}\t{charge}\t{volume}\n");
+    text += &format!("end\t{placed}\t{refused}\t{charge}\t{volume}\t{lowest}\t{tick}\n");
     text.into_bytes()
 }

@@ -21,7 +21,7 @@ const EXAMPLE_REPORT: &str = "7 placed 10 15
 8 refused WD
 9 refused V
 10 placed 15 17
-end 2 2 37 50
+end 2 2 37 50 34 17
 ";
 
 // Plans are written here with a blank for each tab.
@@ -37,7 +37,7 @@ pub fn cases() -> Vec<Case> {
     let mut cases = vec![case("the input of document 01", EXAMPLE, EXAMPLE_REPORT)];
     cases.extend(refusal_table());
     cases.extend(order_of_checks());
-    let placings = [EDGES, CHARGE, STATE, HEATER, STARTS, SHARED, LETTERS];
+    let placings = [EDGES, CHARGE, STATE, HEATER, STARTS, SHARED, LETTERS, LOWEST];
     for (name, plan, output) in placings.concat() {
         cases.push(case(name, plan, output));
     }
@@ -136,9 +136,9 @@ fn order_of_checks() -> Vec<Case> {
     cases
 }
 
-// 64 activities of one tick asking for nothing, all preferring tick 0; P's charge reaches 60.
+// 64 activities of one tick asking for nothing, all preferring tick 0; P's charge rises from 40 to 60.
 fn sixty_four() -> String {
-    (1..=64).fold(String::new(), |text, id| text + &format!("{id} placed 0 1\n")) + "end 64 0 60 0\n"
+    (1..=64).fold(String::new(), |text, id| text + &format!("{id} placed 0 1\n")) + "end 64 0 60 0 40 0\n"
 }
 
 type Text = (&'static str, &'static str, &'static str);
@@ -157,7 +157,7 @@ const AFTER: &[Text] = &[
     (
         "`after` of a later line at an earlier place",
         "plan 9 0 1 0 0 0 0 0 0 0 0\nact 1 9 1 0 - 2 - - - 0 0 0 0 0\nact 2 1 2 3 - - - - - 0 0 0 0 0\n",
-        "2 placed 3 5\n1 placed 5 6\nend 2 0 0 0\n",
+        "2 placed 3 5\n1 placed 5 6\nend 2 0 0 0 0 0\n",
     ),
     (
         "`after` at equal priority goes by line",
@@ -174,35 +174,35 @@ const AFTER: &[Text] = &[
 ];
 
 const EDGES: &[Text] = &[
-    ("edge 6, handover 60", "plan 20 840 100 20 40 1 60 1 10 50 1\n", "end 0 0 60 0\n"),
+    ("edge 6, handover 60", "plan 20 840 100 20 40 1 60 1 10 50 1\n", "end 0 0 60 0 40 0\n"),
     (
         "edge 7, valid 8 and 16, preferred 12",
         "plan 20 840 100 20 40 1 0 1 10 50 1\nact 1 1 2 12 8:8,16:16 - - - - 0 0 0 0 0\n",
-        "1 placed 8 10\nend 1 0 60 0\n",
+        "1 placed 8 10\nend 1 0 60 0 40 0\n",
     ),
     (
         "edge 8, s + d = T",
         "plan 20 840 100 20 40 1 0 1 10 50 1\nact 1 1 3 19 - - - - - 0 0 0 0 0\n",
-        "1 placed 17 20\nend 1 0 60 0\n",
+        "1 placed 17 20\nend 1 0 60 0 40 0\n",
     ),
-    // 40 - 4 * 5 = 20, the floor; one more is under it.
+    // 40 - 4 * 5 = 20, the floor, from tick 7 on; one more is under it.
     (
         "edge 9, charge equal to the floor",
         "plan 10 840 100 20 40 0 0 64 0 0 0
 act 1 1 4 3 - - - - - 0 0 5 0 0
 act 2 2 1 3 - - - - - 0 0 1 0 0
 ",
-        "1 placed 3 7\n2 refused B\nend 1 1 20 0\n",
+        "1 placed 3 7\n2 refused B\nend 1 1 20 0 20 7\n",
     ),
-    ("no activities", "plan 5 0 10 0 3 1 0 0 0 0 0\n", "end 0 0 8 0\n"),
-    ("no activities, capacity reached", "plan 5 0 6 0 3 1 0 0 0 0 0\n", "end 0 0 6 0\n"),
+    ("no activities", "plan 5 0 10 0 3 1 0 0 0 0 0\n", "end 0 0 8 0 3 0\n"),
+    ("no activities, capacity reached", "plan 5 0 6 0 3 1 0 0 0 0 0\n", "end 0 0 6 0 3 0\n"),
     (
         "T 1",
         "plan 1 0 1 1 1 0 1 0 0 0 0
 act 0 0 1 4095 - - - - - 0 0 0 0 0
 act 1 0 1 0 - - - - - 0 0 1 0 0
 ",
-        "0 placed 0 1\n1 refused B\nend 1 1 1 0\n",
+        "0 placed 0 1\n1 refused B\nend 1 1 1 0 1 0\n",
     ),
 ];
 
@@ -215,13 +215,13 @@ const CHARGE: &[Text] = &[
 act 1 1 2 4 - - - - - 0 0 5 0 0
 act 2 2 2 4 - - - - - 0 0 4 0 0
 ",
-        "1 placed 4 6\n2 placed 2 4\nend 2 0 0 0\n",
+        "1 placed 4 6\n2 placed 2 4\nend 2 0 0 0 0 6\n",
     ),
-    // At 0 the charge is -10, then 90; at 1 it is 110, 90, 190.
+    // With 1 at 0 the charge is 10 -10 90 190; at 1 it is 10 110 90 190.
     (
         "below zero and up again",
         "plan 3 840 1000 0 10 100 0 64 0 0 0\nact 1 1 1 0 - - - - - 0 0 120 0 0\n",
-        "1 placed 1 2\nend 1 0 190 0\n",
+        "1 placed 1 2\nend 1 0 190 0 10 0\n",
     ),
     (
         "far below zero in a trial, then a small draw",
@@ -229,7 +229,7 @@ act 2 2 2 4 - - - - - 0 0 4 0 0
 act 1 1 5 0 - - - - - 0 0 1000000 0 0
 act 2 2 5 0 - - - - - 0 0 2 0 0
 ",
-        "1 refused B\n2 placed 0 5\nend 1 1 0 0\n",
+        "1 refused B\n2 placed 0 5\nend 1 1 0 0 0 5\n",
     ),
     // 2 leaves 14 behind its own ticks, and the placed 1 then needs 20.
     (
@@ -238,7 +238,7 @@ act 2 2 5 0 - - - - - 0 0 2 0 0
 act 1 1 2 8 8:8 - - - - 0 0 10 0 0
 act 2 2 2 0 - - - - - 0 0 8 0 0
 ",
-        "1 placed 8 10\n2 refused B\nend 1 1 10 0\n",
+        "1 placed 8 10\n2 refused B\nend 1 1 10 0 10 10\n",
     ),
     (
         "handover charge missing at T alone",
@@ -246,13 +246,13 @@ act 2 2 2 0 - - - - - 0 0 8 0 0
 act 1 1 1 4 - - - - - 0 0 1 0 0
 act 2 2 1 4 - - - - - 0 0 0 0 0
 ",
-        "1 refused B\n2 placed 4 5\nend 1 1 50 0\n",
+        "1 refused B\n2 placed 4 5\nend 1 1 50 0 50 0\n",
     ),
     // The charge may be under the handover charge before T: from 9 it ends at 45, from 5 at 49, from 4 at 50.
     (
         "handover charge reached again by T",
         "plan 10 840 50 0 50 1 50 64 0 0 0\nact 1 1 1 9 - - - - - 0 0 6 0 0\n",
-        "1 placed 4 5\nend 1 0 50 0\n",
+        "1 placed 4 5\nend 1 0 50 0 45 5\n",
     ),
 ];
 
@@ -264,7 +264,7 @@ const STATE: &[Text] = &[
 act 1 1 3 5 5:5 - - 0=0 - 0 0 0 0 0
 act 2 2 2 0 - - - - 0=1 0 0 0 0 0
 ",
-        "1 placed 5 8\n2 placed 6 8\nend 2 0 100 0\n",
+        "1 placed 5 8\n2 placed 6 8\nend 2 0 100 0 100 0\n",
     ),
     (
         "a set to the needed value spoils nothing",
@@ -272,7 +272,7 @@ act 2 2 2 0 - - - - 0=1 0 0 0 0 0
 act 1 1 3 5 5:5 - - 0=0 - 0 0 0 0 0
 act 2 2 2 0 - - - - 0=0,1=4 0 0 0 0 0
 ",
-        "1 placed 5 8\n2 placed 0 2\nend 2 0 100 0\n",
+        "1 placed 5 8\n2 placed 0 2\nend 2 0 100 0 100 0\n",
     ),
     (
         "equal effect ticks: the later place stands, not the later line",
@@ -282,7 +282,7 @@ act 1 1 2 3 3:3 - - - 0=1 0 0 0 0 0
 act 3 3 2 9 - - - 0=2 - 0 0 0 0 0
 act 4 4 2 9 - - - 0=1 - 0 0 0 0 0
 ",
-        "1 placed 3 5\n2 placed 1 5\n3 placed 9 11\n4 refused S\nend 3 1 100 0\n",
+        "1 placed 3 5\n2 placed 1 5\n3 placed 9 11\n4 refused S\nend 3 1 100 0 100 0\n",
     ),
     // The value is 2 at ticks 4 and 5 only.
     (
@@ -292,7 +292,7 @@ act 1 1 2 4 4:4 - - - 0=1 0 0 0 0 0
 act 2 2 2 2 2:2 - - - 0=2 0 0 0 0 0
 act 3 3 2 19 - - - 0=2 - 0 0 0 0 0
 ",
-        "1 placed 4 6\n2 placed 2 4\n3 placed 4 6\nend 3 0 100 0\n",
+        "1 placed 4 6\n2 placed 2 4\n3 placed 4 6\nend 3 0 100 0 100 0\n",
     ),
     (
         "a need met only by 0 at tick 0",
@@ -300,17 +300,17 @@ act 3 3 2 19 - - - 0=2 - 0 0 0 0 0
 act 1 1 1 0 0:0 - - - 3=5 0 0 0 0 0
 act 2 2 1 9 - - - 3=0 - 0 0 0 0 0
 ",
-        "1 placed 0 1\n2 placed 0 1\nend 2 0 100 0\n",
+        "1 placed 0 1\n2 placed 0 1\nend 2 0 100 0 100 0\n",
     ),
     (
         "a set doesn't meet its own activity's need",
         "plan 10 840 100 0 100 0 0 64 0 0 0\nact 1 1 2 3 - - - 0=1 0=1 0 0 0 0 0\n",
-        "1 refused S\nend 0 1 100 0\n",
+        "1 refused S\nend 0 1 100 0 100 0\n",
     ),
     (
         "a set may end its own activity's value",
         "plan 10 840 100 0 100 0 0 64 0 0 0\nact 1 1 2 3 - - - 0=0 0=1 0 0 0 0 0\n",
-        "1 placed 3 5\nend 1 0 100 0\n",
+        "1 placed 3 5\nend 1 0 100 0 100 0\n",
     ),
     // The value changes at 6.
     (
@@ -319,12 +319,12 @@ act 2 2 1 9 - - - 3=0 - 0 0 0 0 0
 act 1 1 2 4 4:4 - - - 0=1 0 0 0 0 0
 act 2 2 4 4 - - - 0=0 - 0 0 0 0 0
 ",
-        "1 placed 4 6\n2 placed 2 6\nend 2 0 100 0\n",
+        "1 placed 4 6\n2 placed 2 6\nend 2 0 100 0 100 0\n",
     ),
     (
         "of two needs one is never met",
         "plan 12 840 100 0 100 0 0 64 0 0 0\nact 1 1 2 4 - - - 0=0,7=255 - 0 0 0 0 0\n",
-        "1 refused S\nend 0 1 100 0\n",
+        "1 refused S\nend 0 1 100 0 100 0\n",
     ),
 ];
 
@@ -333,9 +333,9 @@ const HEATER: &[Text] = &[
     (
         "heater ticks below 0 draw nothing",
         "plan 10 840 100 10 14 0 0 64 0 0 1\nact 1 1 1 0 - - - - - 0 0 1 0 1\n",
-        "1 refused BH\nend 0 1 14 0\n",
+        "1 refused BH\nend 0 1 14 0 14 0\n",
     ),
-    // Each draws 8 in ticks 0 to 3, and 20 - 16 = 4 is the floor.
+    // Each draws 8 in ticks 0 to 3, and 20 - 16 = 4 is the floor, from tick 4 on.
     (
         "heaters add up",
         "plan 10 840 100 4 20 0 0 64 0 0 2
@@ -343,7 +343,7 @@ act 1 1 1 4 - - - - - 0 0 0 0 1
 act 2 2 1 4 - - - - - 0 0 0 0 1
 act 3 3 1 4 - - - - - 0 0 0 0 1
 ",
-        "1 placed 4 5\n2 placed 4 5\n3 refused BH\nend 2 1 4 0\n",
+        "1 placed 4 5\n2 placed 4 5\n3 refused BH\nend 2 1 4 0 4 4\n",
     ),
     (
         "the heater holds no unit and no engine",
@@ -351,18 +351,18 @@ act 3 3 1 4 - - - - - 0 0 0 0 1
 act 1 1 4 0 0:0 - 2 - - 1 5 0 0 0
 act 2 2 2 4 - - 2 - - 1 5 0 0 1
 ",
-        "1 placed 0 4\n2 placed 4 6\nend 2 0 20 0\n",
+        "1 placed 0 4\n2 placed 4 6\nend 2 0 20 0 20 0\n",
     ),
     // Minutes 1,440 to 1,449 are q 0 and 1, where w is 14, so 14 is the first start; 14 heater ticks.
     (
         "warm-up over midnight",
         "plan 20 1435 100 0 20 0 0 0 0 0 1\nact 1 1 1 0 - - - - - 0 0 0 0 1\n",
-        "1 placed 14 15\nend 1 0 6 0\n",
+        "1 placed 14 15\nend 1 0 6 0 6 14\n",
     ),
     (
         "warm-up longer than the plan",
         "plan 3 840 100 0 20 0 0 0 0 0 1\nact 1 1 1 0 - - - - - 0 0 0 9 1\nact 2 1 1 0 - - - - - 0 0 0 0 1\n",
-        "1 refused H\n2 refused H\nend 0 2 20 0\n",
+        "1 refused H\n2 refused H\nend 0 2 20 0 20 0\n",
     ),
 ];
 
@@ -370,22 +370,22 @@ const STARTS: &[Text] = &[
     (
         "two windows, the nearer bound",
         "plan 20 840 100 0 100 0 0 64 0 0 0\nact 1 1 1 7 0:2,10:12 - - - - 0 0 0 0 0\n",
-        "1 placed 10 11\nend 1 0 100 0\n",
+        "1 placed 10 11\nend 1 0 100 0 100 0\n",
     ),
     (
         "a window bounds the start only",
         "plan 20 840 100 0 100 0 0 64 0 0 0\nact 1 1 9 7 3:4 - - - - 0 0 0 0 0\n",
-        "1 placed 4 13\nend 1 0 100 0\n",
+        "1 placed 4 13\nend 1 0 100 0 100 0\n",
     ),
     (
         "windows behind the last start",
         "plan 20 840 100 0 100 0 0 64 0 0 0\nact 1 1 9 7 12:19,4095:4095 - - - - 0 0 0 0 0\n",
-        "1 refused W\nend 0 1 100 0\n",
+        "1 refused W\nend 0 1 100 0 100 0\n",
     ),
     (
         "preferred tick behind the last start",
         "plan 20 840 100 0 100 0 0 64 0 0 0\nact 1 1 9 4095 - - - - - 0 0 0 0 0\n",
-        "1 placed 11 20\nend 1 0 100 0\n",
+        "1 placed 11 20\nend 1 0 100 0 100 0\n",
     ),
     (
         "a tie of two starts",
@@ -393,7 +393,7 @@ const STARTS: &[Text] = &[
 act 1 1 3 4 4:4 - 0 - - 0 0 0 0 0
 act 2 2 1 5 - - 0 - - 0 0 0 0 0
 ",
-        "1 placed 4 7\n2 placed 3 4\nend 2 0 100 0\n",
+        "1 placed 4 7\n2 placed 3 4\nend 2 0 100 0 100 0\n",
     ),
     (
         "priority, then line",
@@ -402,7 +402,7 @@ act 5 9 2 0 - - 1 - - 0 0 0 0 0
 act 6 1 2 0 - - 1 - - 0 0 0 0 0
 act 3 9 2 0 - - 1 - - 0 0 0 0 0
 ",
-        "6 placed 0 2\n5 placed 2 4\n3 placed 4 6\nend 3 0 100 0\n",
+        "6 placed 0 2\n5 placed 2 4\n3 placed 4 6\nend 3 0 100 0 100 0\n",
     ),
     (
         "after two, the later end counts",
@@ -411,7 +411,7 @@ act 4 1 3 4 - - - - - 0 0 0 0 0
 act 1 2 3 0 - - - - - 0 0 0 0 0
 act 9 3 2 0 - 1,4 - - - 0 0 0 0 0
 ",
-        "4 placed 4 7\n1 placed 0 3\n9 placed 7 9\nend 3 0 100 0\n",
+        "4 placed 4 7\n1 placed 0 3\n9 placed 7 9\nend 3 0 100 0 100 0\n",
     ),
     (
         "after a refused one",
@@ -420,7 +420,7 @@ act 1 1 1 0 - - - - - 0 0 0 6 0
 act 2 2 1 0 - 1 - - - 0 0 0 5 0
 act 3 3 1 0 - 2 - - - 0 0 0 0 0
 ",
-        "1 refused V\n2 refused D\n3 refused D\nend 0 3 100 0\n",
+        "1 refused V\n2 refused D\n3 refused D\nend 0 3 100 0 100 0\n",
     ),
 ];
 
@@ -433,7 +433,7 @@ act 1 1 3 2 2:2 - 3 - - 0 0 0 0 0
 act 2 2 2 3 - - 1,3 - - 0 0 0 0 0
 act 3 3 2 3 - - 1 - - 0 0 0 0 0
 ",
-        "1 placed 2 5\n2 placed 5 7\n3 placed 3 5\nend 3 0 100 0\n",
+        "1 placed 2 5\n2 placed 5 7\n3 placed 3 5\nend 3 0 100 0 100 0\n",
     ),
     (
         "engines up to the limit",
@@ -443,7 +443,7 @@ act 2 2 4 0 - - - - - 1 0 0 0 0
 act 3 3 1 0 - - - - - 1 0 0 0 0
 act 4 4 1 0 - - - - - 0 0 0 0 0
 ",
-        "1 placed 0 4\n2 placed 0 4\n3 refused E\n4 placed 0 1\nend 3 1 100 0\n",
+        "1 placed 0 4\n2 placed 0 4\n3 refused E\n4 placed 0 1\nend 3 1 100 0 100 0\n",
     ),
     (
         "peaks up to the limit",
@@ -453,7 +453,7 @@ act 2 2 4 0 - - - - - 0 11 0 0 0
 act 3 3 4 0 - - - - - 0 10 0 0 0
 act 4 4 1 0 - - - - - 0 1 0 0 0
 ",
-        "1 placed 0 2\n2 refused P\n3 placed 0 4\n4 placed 2 3\nend 3 1 100 0\n",
+        "1 placed 0 2\n2 refused P\n3 placed 0 4\n4 placed 2 3\nend 3 1 100 0 100 0\n",
     ),
     (
         "volumes up to the limit",
@@ -462,7 +462,7 @@ act 1 1 1 0 - - - - - 0 0 0 1000000000 0
 act 2 2 1 0 - - - - - 0 0 0 1 0
 act 3 3 1 0 - - - - - 0 0 0 0 0
 ",
-        "1 placed 0 1\n2 refused V\n3 placed 0 1\nend 2 1 100 1000000000\n",
+        "1 placed 0 1\n2 refused V\n3 placed 0 1\nend 2 1 100 1000000000 100 0\n",
     ),
 ];
 
@@ -470,13 +470,13 @@ const LETTERS: &[Text] = &[
     (
         "W and H",
         "plan 10 840 100 0 100 0 0 1 0 0 0\nact 1 1 1 5 0:3 - - - - 0 0 0 0 1\n",
-        "1 refused WH\nend 0 1 100 0\n",
+        "1 refused WH\nend 0 1 100 0 100 0\n",
     ),
     // V fails at every start, so every other letter goes.
     (
         "V beside a closed window",
         "plan 10 840 100 0 100 0 0 1 0 3 0\nact 1 1 1 5 12:13 - - - - 2 0 0 4 0\n",
-        "1 refused V\nend 0 1 100 0\n",
+        "1 refused V\nend 0 1 100 0 100 0\n",
     ),
     // U bars 0 and 1, E bars 2 and 3, W bars 4 and 5.
     (
@@ -486,7 +486,7 @@ act 1 1 2 0 0:0 - 0 - - 0 0 0 0 0
 act 2 2 2 2 2:2 - - - - 1 0 0 0 0
 act 3 3 1 5 0:3 - 0 - - 1 0 0 0 0
 ",
-        "1 placed 0 2\n2 placed 2 4\n3 refused WUE\nend 2 1 100 0\n",
+        "1 placed 0 2\n2 placed 2 4\n3 refused WUE\nend 2 1 100 0 100 0\n",
     ),
     (
         "four letters",
@@ -496,7 +496,7 @@ act 2 2 2 2 2:2 - - - - 1 0 0 0 0
 act 3 3 2 4 4:4 - - - - 0 9 0 0 0
 act 4 4 1 5 0:5 - 0 - - 1 1 0 0 0
 ",
-        "1 placed 0 2\n2 placed 2 4\n3 placed 4 6\n4 refused WUEP\nend 3 1 100 0\n",
+        "1 placed 0 2\n2 placed 2 4\n3 placed 4 6\n4 refused WUEP\nend 3 1 100 0 100 0\n",
     ),
     // U, E and P bar the same ticks; the last of them is left.
     (
@@ -505,9 +505,10 @@ act 4 4 1 5 0:5 - 0 - - 1 1 0 0 0
 act 1 1 4 0 - - 0 - - 1 9 0 0 0
 act 2 2 1 0 - - 0 - - 1 9 0 0 0
 ",
-        "1 placed 0 4\n2 refused P\nend 1 1 100 0\n",
+        "1 placed 0 4\n2 refused P\nend 1 1 100 0 100 0\n",
     ),
-    // D bars 0 and 1, U 2 and 3, S 4 and 5, E 6 and 7, P 8 and 9, B 10 and 11, W 12 and 13.
+    // D bars 0 and 1, U 2 and 3, S 4 and 5, E 6 and 7, P 8 and 9, B 10 and 11, W 12 and 13. The charge is 100 up to
+    // tick 10, then 0 0 50 100.
     (
         "seven letters",
         "plan 14 840 100 0 100 50 0 1 9 0 0
@@ -530,7 +531,118 @@ act 9 9 1 7 0:11 1 0 0=0 - 1 1 10 0 0
 7 placed 10 12
 8 placed 10 11
 9 refused WDUSEPB
-end 8 1 100 0
+end 8 1 100 0 0 11
 ",
+    ),
+];
+
+// The lowest charge and the first tick that has it; each comment has the charge from tick 0 on.
+const LOWEST: &[Text] = &[
+    // 30 33 36 37 38 41 44: in ticks 2 and 3 less is drawn than charged.
+    (
+        "lowest at tick 0, though something draws",
+        "plan 6 840 100 0 30 3 0 0 0 0 0\nact 1 1 2 2 - - - - - 0 0 2 0 0\n",
+        "1 placed 2 4\nend 1 0 44 0 30 0\n",
+    ),
+    // 30 31 32 33 34 35 16: the last tick draws.
+    (
+        "lowest at T alone",
+        "plan 6 840 100 0 30 1 0 0 0 0 0\nact 1 1 1 5 - - - - - 0 0 20 0 0\n",
+        "1 placed 5 6\nend 1 0 16 0 16 6\n",
+    ),
+    // Drawn in every tick: 5000 - 4096.
+    (
+        "lowest at T, the last of 4,096 ticks",
+        "plan 4096 840 10000 0 5000 0 0 0 0 0 0\nact 1 1 4096 0 - - - - - 0 0 1 0 0\n",
+        "1 placed 0 4096\nend 1 0 904 0 904 4096\n",
+    ),
+    // 50 50 50 40 45 50 50 50 50 40 45: at 3 and at 9, and the activity that draws at 2 has the later place.
+    (
+        "two ticks have the lowest: the first, of whatever place",
+        "plan 10 840 50 0 50 5 0 0 0 0 0
+act 1 1 1 8 - - - - - 0 0 15 0 0
+act 2 2 1 2 - - - - - 0 0 15 0 0
+",
+        "1 placed 8 9\n2 placed 2 3\nend 2 0 45 0 40 3\n",
+    ),
+    // 20 22 24 26 20 22 24
+    (
+        "tick 0 and a later one have the lowest",
+        "plan 6 840 100 0 20 2 0 0 0 0 0\nact 1 1 1 3 - - - - - 0 0 8 0 0\n",
+        "1 placed 3 4\nend 1 0 24 0 20 0\n",
+    ),
+    // 50 50 44 44 44 44 44 38 38: at T too.
+    (
+        "a later tick and T have the lowest",
+        "plan 8 840 50 0 50 0 0 0 0 0 0
+act 1 1 1 1 - - - - - 0 0 6 0 0
+act 2 2 1 6 - - - - - 0 0 6 0 0
+",
+        "1 placed 1 2\n2 placed 6 7\nend 2 0 38 0 38 7\n",
+    ),
+    // 30 32 22 22 22 22 24 26 28: 2 draws what is charged.
+    (
+        "ticks in a row have the lowest",
+        "plan 8 840 100 0 30 2 0 0 0 0 0
+act 1 1 1 1 - - - - - 0 0 12 0 0
+act 2 2 3 2 - - - - - 0 0 2 0 0
+",
+        "1 placed 1 2\n2 placed 2 5\nend 2 0 28 0 22 2\n",
+    ),
+    // 40 42 44 45 36 37 38 39 40 42 44: 1 goes on behind 2 and draws less than is charged.
+    (
+        "lowest before the last activity ends",
+        "plan 10 840 100 0 40 2 0 0 0 0 0
+act 1 1 6 2 - - - - - 0 0 1 0 0
+act 2 2 1 3 - - - - - 0 0 10 0 0
+",
+        "1 placed 2 8\n2 placed 3 4\nend 2 0 44 0 36 4\n",
+    ),
+    // w is 4. 30 32 34 31 28 25 22 24 26 28 30: the floor is reached at 6, behind the heater and before the activity,
+    // which draws nothing.
+    (
+        "lowest behind a heater alone",
+        "plan 10 840 100 22 30 2 0 0 0 0 5\nact 1 1 2 6 - - - - - 0 0 0 0 1\n",
+        "1 placed 6 8\nend 1 0 30 0 22 6\n",
+    ),
+    // w is 4. 30 30 26 22 18 14 13 12 12: with a heater of 4 and then a draw of 1 for 2 ticks.
+    (
+        "lowest behind a heater and its activity",
+        "plan 8 840 30 0 30 0 0 0 0 0 4\nact 1 1 2 5 - - - - - 0 0 1 0 1\n",
+        "1 placed 5 7\nend 1 0 12 0 12 7\n",
+    ),
+    // 10 3 8 13 18 20 20 5 10
+    (
+        "the capacity is reached behind the lowest",
+        "plan 8 840 20 0 10 5 0 0 0 0 0
+act 1 1 1 0 - - - - - 0 0 12 0 0
+act 2 2 1 6 - - - - - 0 0 20 0 0
+",
+        "1 placed 0 1\n2 placed 6 7\nend 2 0 10 0 3 1\n",
+    ),
+    // 10 3 8 13 18 20 20 2 7: without the capacity it would be 10 at 7, and the lowest 3.
+    (
+        "what is over the capacity is missing at the lowest",
+        "plan 8 840 20 0 10 5 0 0 0 0 0
+act 1 1 1 0 - - - - - 0 0 12 0 0
+act 2 2 1 6 - - - - - 0 0 23 0 0
+",
+        "1 placed 0 1\n2 placed 6 7\nend 2 0 7 0 2 7\n",
+    ),
+    // 30 30 30 25 25 25 25: 1 would have gone down to 5.
+    (
+        "a refused activity lowers nothing",
+        "plan 6 840 100 10 30 0 0 0 0 0 0
+act 1 1 1 2 - - - - - 0 0 25 0 0
+act 2 2 1 2 - - - - - 0 0 5 0 0
+",
+        "1 refused B\n2 placed 2 3\nend 1 1 25 0 25 3\n",
+    ),
+    ("no activities, nothing charged", "plan 5 0 10 0 3 0 0 0 0 0 0\n", "end 0 0 3 0 3 0\n"),
+    ("no activities, the battery is full", "plan 5 0 6 0 6 1 0 0 0 0 0\n", "end 0 0 6 0 6 0\n"),
+    (
+        "no activities, the greatest charge",
+        "plan 1 0 1000000000 1000000000 1000000000 1000000 1000000000 0 0 0 0\n",
+        "end 0 0 1000000000 0 1000000000 0\n",
     ),
 ];

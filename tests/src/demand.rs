@@ -27,7 +27,7 @@ pub fn read_report(report: &[u8]) -> Option<(Vec<(i64, Line)>, Vec<i64>)> {
     let mut lines: Vec<Vec<&str>> = text.split('\n').map(|line| line.split('\t').collect()).collect();
     let last = lines.pop()?;
     let end: Vec<i64> = last[1..].iter().filter_map(|text| text.parse().ok()).collect();
-    if last[0] != "end" || last.len() != 5 || end.len() != 4 {
+    if last[0] != "end" || last.len() != 7 || end.len() != 6 {
         return None;
     }
     let mut read = Vec::new();
@@ -60,10 +60,11 @@ pub fn check_report(plan: &Plan, report: &[u8], tally: &mut Tally) -> Result<Vec
         }
         all_tables.push(tables);
     }
-    let charge = check_finished(plan, &placed)?;
+    let charges = check_finished(plan, &placed)?;
     let volume = placed.iter().map(|p| p.activity.volume).sum();
-    let told = [placed.len() as i64, (lines.len() - placed.len()) as i64, charge, volume];
-    ensure(end == told, || format!("the last line has {end:?}, not {told:?}"))?;
+    let told = [placed.len() as i64, (lines.len() - placed.len()) as i64, charges[charges.len() - 1], volume];
+    ensure(end[..4] == told, || format!("the last line has {end:?}, not {told:?}"))?;
+    check_lowest(&charges, end[4], end[5], tally).map_err(|said| format!("the last line has {end:?}: {said}"))?;
     Ok(all_tables)
 }
 
@@ -133,10 +134,25 @@ fn check_letters(letters: &str, tables: &[Vec<bool>]) -> Result<(), String> {
     Ok(())
 }
 
-// The finished schedule played tick by tick breaks no limit; gives the charge at T.
-fn check_finished(plan: &Plan, placed: &[Interval]) -> Result<i64, String> {
+// No charge is under the lowest; the one at its tick is the lowest, and no earlier one is.
+fn check_lowest(charges: &[i64], lowest: i64, tick: i64, tally: &mut Tally) -> Result<(), String> {
+    for (t, &charge) in charges.iter().enumerate() {
+        ensure(charge >= lowest, || format!("the charge is {charge} at tick {t}"))?;
+        ensure(charge > lowest || t as i64 >= tick, || format!("tick {t} has that charge"))?;
+    }
+    ensure(usize::try_from(tick).is_ok_and(|tick| charges.get(tick) == Some(&lowest)), || {
+        format!("tick {tick} doesn't have that charge")
+    })?;
+    let again = charges[tick as usize + 1..].contains(&lowest);
+    tally.lowest(tick as usize, charges.len() - 1, again);
+    Ok(())
+}
+
+// The finished schedule played tick by tick breaks no limit; gives the charges at ticks 0 to T.
+fn check_finished(plan: &Plan, placed: &[Interval]) -> Result<Vec<i64>, String> {
     let table = warm_up_table();
     let mut charge = plan.first_charge;
+    let mut charges = Vec::new();
     let mut state = [0; 8];
     for tick in 0..=plan.horizon {
         let broken = |letter: char| format!("the finished schedule breaks {letter} at tick {tick}");
@@ -156,6 +172,7 @@ fn check_finished(plan: &Plan, placed: &[Interval]) -> Result<i64, String> {
         ensure(holding.iter().map(|p| p.activity.engines).sum::<i64>() <= plan.engines, || broken('E'))?;
         ensure(holding.iter().map(|p| p.activity.peak).sum::<i64>() <= plan.peak, || broken('P'))?;
         ensure(charge >= plan.floor && (tick < plan.horizon || charge >= plan.handover), || broken('B'))?;
+        charges.push(charge);
         if tick < plan.horizon {
             let heating = |p: &&Interval| p.start - warmth(plan, p, &table) <= tick && tick < p.start;
             let heaters = placed.iter().filter(heating).count() as i64;
@@ -165,5 +182,5 @@ fn check_finished(plan: &Plan, placed: &[Interval]) -> Result<i64, String> {
     }
     let volume: i64 = placed.iter().map(|p| p.activity.volume).sum();
     ensure(volume <= plan.volume, || "the finished schedule breaks V".to_string())?;
-    Ok(charge)
+    Ok(charges)
 }

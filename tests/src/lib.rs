@@ -22,7 +22,7 @@ pub mod random;
 // Checks.
 pub mod cases;
 pub mod check;
-mod demand;
+pub mod demand;
 mod explain_check;
 pub mod explain_tally;
 mod faults;

@@ -89,7 +89,14 @@ pub fn runs(meets: &[bool]) -> Vec<(usize, usize)> {
     runs
 }
 
-// The charge at T of what is placed.
-pub fn charge_at_end(plan: &Plan, placed: &[Placed]) -> i64 {
-    charges(plan, &draws(plan, placed))[plan.horizon as usize]
+// The charge at T of what is placed, the lowest at ticks 0 to T, and the first tick that has it.
+pub fn last_and_lowest(plan: &Plan, placed: &[Placed]) -> (i64, i64, usize) {
+    let charges = charges(plan, &draws(plan, placed));
+    let mut first = 0;
+    for t in 0..charges.len() {
+        if charges[t] < charges[first] {
+            first = t;
+        }
+    }
+    (charges[plan.horizon as usize], charges[first], first)
 }

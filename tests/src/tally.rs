@@ -17,7 +17,11 @@ pub struct Tally {
     pub at_first: u64,
     pub at_last: u64,
     pub starts: u64,
+    pub lowest: BTreeMap<&'static str, u64>,
 }
+
+// Where the lowest charge of a plan is, and that a later tick has it, too.
+const LOWEST: [&str; 4] = ["at tick 0", "in between", "at T", "again later"];
 
 impl Tally {
     pub fn kind(&mut self, kind: &'static str) {
@@ -41,6 +45,19 @@ impl Tally {
         *self.sizes.entry(letters.len()).or_default() += 1;
         for letter in letters.chars() {
             *self.letters.entry(letter).or_default() += 1;
+        }
+    }
+
+    // The first tick with the lowest charge, and whether a later one has it.
+    pub fn lowest(&mut self, tick: usize, horizon: usize, again: bool) {
+        let place = match tick {
+            0 => 0,
+            _ if tick < horizon => 1,
+            _ => 2,
+        };
+        *self.lowest.entry(LOWEST[place]).or_default() += 1;
+        if again {
+            *self.lowest.entry(LOWEST[3]).or_default() += 1;
         }
     }
 
@@ -75,6 +92,8 @@ impl Tally {
                 missing.push(what.to_string());
             }
         }
+        let never = LOWEST.iter().filter(|place| !self.lowest.contains_key(*place));
+        missing.extend(never.map(|place| format!("lowest charge {place}")));
         missing
     }
 
@@ -129,6 +148,7 @@ impl fmt::Display for Tally {
             "  placed where {} at start 0, {} at T-d, {} at the earlier of two equally near",
             self.at_first, self.at_last, self.ties
         )?;
+        writeln!(out, "  lowest c     {}", row(&self.lowest))?;
         writeln!(out, "  no, calls    {}", row(&calls))?;
         write!(out, "  starts       {} lists of runs", self.starts)
     }

@@ -18,7 +18,7 @@
 //! assert_eq!(starts(plan, 0, Conditions::ALL)?, [0..=3, 12..=16]);
 //! let mut room = [0; REPORT_MOST];
 //! let text = report(plan, &mut room)?;
-//! assert_eq!(text, b"5\tplaced\t12\t16\nend\t1\t0\t60\t0\n");
+//! assert_eq!(text, b"5\tplaced\t12\t16\nend\t1\t0\t60\t0\t40\t0\n");
 //! assert_eq!(place_of(text, 5), Some(0));
 //! # Ok::<(), bovkact_planner::Refusal>(())
 //! ```
@@ -76,14 +76,14 @@ use core::ops::RangeInclusive;
 compile_error!("libstation.a is for x86-64, with Linux or without an operating system");
 
 /// The version of the library that this crate is for; [`version`] gives that of the one linked.
-pub const VERSION: u32 = 1;
+pub const VERSION: u32 = 2;
 
 /// The most bytes of a plan; a longer one is refused.
 pub const PLAN_MOST: usize = 60_000;
 /// The most activities of a plan.
 pub const ACTIVITIES_MOST: usize = 64;
 /// Bytes: room enough for every report.
-pub const REPORT_MOST: usize = 1_568;
+pub const REPORT_MOST: usize = 1_584;
 /// Records: room enough for every list of runs.
 pub const RUNS_MOST: usize = 2_048;
 /// Bytes of stack that are enough for every call, whatever the plan; [`starts`] takes 16,384 more for its own list.
@@ -210,7 +210,9 @@ pub fn outcome(plan: &[u8], place: usize) -> Result<Outcome, Refusal> {
 
 /// The report of a plan, written to the front of `out` and borrowed from it; [`REPORT_MOST`] bytes are always enough.
 ///
-/// It is ASCII: a line for each place, place 0 first, then the end line.
+/// It is ASCII: a line for each place, place 0 first, then the end line: the word `end`, how many are placed and how
+/// many refused, the charge at the horizon, the volume placed, the lowest charge at ticks 0 to the horizon, and the first
+/// tick that has it.
 ///
 /// ```
 /// use bovkact_planner::{report, Reason, REPORT_MOST};

@@ -166,20 +166,20 @@ fn starts_into_slices_of_every_length() {
     assert_eq!(starts(plan.as_bytes(), 4, Condition::U), Ok(runs.map(|run| run.first..=run.last).to_vec()));
 }
 
-// The longest report that a plan can have (tests/README.md says why): 64 lines of 23 bytes and an end line of 31.
+// The longest report that a plan can have (tests/README.md says why): 64 lines of 23 bytes and an end line of 46.
 #[test]
 fn the_longest_report() {
     let plan = include_bytes!("../../../tests/plans/longest_report.plan");
     let lines: String = (0..64).map(|k| format!("{}\tplaced\t{}\t{}\n", 10_000 + k, 1_000 + k, 1_001 + k)).collect();
-    let text = lines + "end\t64\t0\t1000000000\t1000000000\n";
-    assert_eq!(text.len(), 1_503);
-    for room in [1_503, 1_504, REPORT_MOST] {
+    let text = lines + "end\t64\t0\t1000000000\t1000000000\t999999999\t1001\n";
+    assert_eq!(text.len(), 1_518);
+    for room in [1_518, 1_519, REPORT_MOST] {
         let mut bytes = [0xa5; REPORT_MOST];
         assert_eq!(report(plan, &mut bytes[..room]), Ok(text.as_bytes()));
-        assert!(bytes[1_503..].iter().all(|&byte| byte == 0xa5));
+        assert!(bytes[1_518..].iter().all(|&byte| byte == 0xa5));
     }
     let mut bytes = [0xa5; REPORT_MOST];
-    assert_eq!(report(plan, &mut bytes[..1_502]), refusal(Reason::SliceTooShort));
+    assert_eq!(report(plan, &mut bytes[..1_517]), refusal(Reason::SliceTooShort));
     assert!(bytes.iter().all(|&byte| byte == 0xa5));
 }
 
@@ -212,7 +212,7 @@ fn places_of_ids() {
     assert_eq!([2, 200, 0, 20].map(|id| place_of(text, id)), [Some(0), Some(1), Some(2), Some(3)]);
     assert_eq!([1, 3, 21, 2_000, u32::MAX].map(|id| place_of(text, id)), [None; 5]);
     assert_eq!(place_of(b"", 0), None);
-    assert_eq!(place_of(b"end\t0\t0\t60\t0\n", 0), None);
+    assert_eq!(place_of(b"end\t0\t0\t60\t0\t40\t0\n", 0), None);
 }
 
 // Behind one that has unit 0 in every tick, nine activities that are refused with one condition each, W to H.

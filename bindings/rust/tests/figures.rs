@@ -24,7 +24,7 @@ fn number(text: &str) -> u64 {
     text.trim().parse().unwrap_or_else(|_| panic!("no number: `{text}`"))
 }
 
-// The value of a definition, as `report_most = 1568`.
+// The value of a definition, as `report_most = 1584`.
 fn defined(text: &str, name: &str) -> u64 {
     number(behind(text, &format!("{name} = ")))
 }

@@ -3,7 +3,7 @@
 use items::Items;
 
 // The first line's numbers. That they are within their ranges (`HeaderFormed`) is asked for where it is needed: in the type
-// it would ask more of callers, as of `charge::out_of_reach`.
+// it would ask more of callers, as of `line::activity_line::read_activity`.
 #[derive(Clone, Copy)]
 pub struct Header {
     pub horizon: u32,

@@ -39,15 +39,15 @@ edges =
     -- 5 activity 7: start 4 meets H, 3 doesn't
     ∷ starts_are 0 256 4 15
     -- 6 handover 60 is accepted in P, 61 refused
-    ∷ (same (output (tabbed "plan 20 840 100 20 40 1 60 1 10 50 1\n")) (tabbed "end 0 0 60 0\n") && same (output (tabbed "plan 20 840 100 20 40 1 61 1 10 50 1\n")) (tabbed "no 9 0\n"))
+    ∷ (same (output (tabbed "plan 20 840 100 20 40 1 60 1 10 50 1\n")) (tabbed "end 0 0 60 0 40 0\n") && same (output (tabbed "plan 20 840 100 20 40 1 61 1 10 50 1\n")) (tabbed "no 9 0\n"))
     -- 7 valid 8 and 16, preferred 12: 8
-    ∷ same (output (line_p ++ tabbed "act 1 0 1 12 8:8,16:16 - - - - 0 0 0 0 0\n")) (tabbed "1 placed 8 9\nend 1 0 60 0\n")
+    ∷ same (output (line_p ++ tabbed "act 1 0 1 12 8:8,16:16 - - - - 0 0 0 0 0\n")) (tabbed "1 placed 8 9\nend 1 0 60 0 40 0\n")
     -- 8 s + d = T is a start
     ∷ starts_are 3 0 0 18
     -- 9 c equal to the floor is enough
-    ∷ same (output (tabbed "plan 2 0 10 5 7 0 0 0 0 0 0\nact 1 0 1 0 - - - - - 0 0 2 0 0\nact 2 0 1 0 - - - - - 0 0 1 0 0\n")) (tabbed "1 placed 0 1\n2 refused B\nend 1 1 5 0\n")
+    ∷ same (output (tabbed "plan 2 0 10 5 7 0 0 0 0 0 0\nact 1 0 1 0 - - - - - 0 0 2 0 0\nact 2 0 1 0 - - - - - 0 0 1 0 0\n")) (tabbed "1 placed 0 1\n2 refused B\nend 1 1 5 0 5 1\n")
     -- 10 the input gives its report
-    ∷ same (output worked) (tabbed "7 placed 10 15\n8 refused WD\n9 refused V\n10 placed 15 17\nend 2 2 37 50\n")
+    ∷ same (output worked) (tabbed "7 placed 10 15\n8 refused WD\n9 refused V\n10 placed 15 17\nend 2 2 37 50 34 17\n")
     ∷ []
 
 all_edges : every (λ b. b) edges ≡ true

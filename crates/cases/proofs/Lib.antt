@@ -4,6 +4,7 @@ pub mod Edges
 pub mod RefusalTable
 pub mod Warmup
 pub mod Charge
+pub mod Lowest
 pub mod State
 pub mod Limits
 pub mod Letters

@@ -16,24 +16,24 @@ held start duration = record { activity = record { id = 0; priority = 0; duratio
 unfoldable pub limit_examples : List Bool
 limit_examples =
     -- two windows: the nearer start
-    prints "plan 9 0 1 0 0 0 0 0 0 0 0\nact 1 0 1 4 0:1,6:7 - - - - 0 0 0 0 0\n" "1 placed 6 7\nend 1 0 0 0\n"
+    prints "plan 9 0 1 0 0 0 0 0 0 0 0\nact 1 0 1 4 0:1,6:7 - - - - 0 0 0 0 0\n" "1 placed 6 7\nend 1 0 0 0 0 0\n"
     -- a tie of two starts: the earlier
-    ∷ prints "plan 9 0 1 0 0 0 0 0 0 0 0\nact 1 0 1 4 2:2,6:6 - - - - 0 0 0 0 0\n" "1 placed 2 3\nend 1 0 0 0\n"
+    ∷ prints "plan 9 0 1 0 0 0 0 0 0 0 0\nact 1 0 1 4 2:2,6:6 - - - - 0 0 0 0 0\n" "1 placed 2 3\nend 1 0 0 0 0 0\n"
     -- after an end exactly met, and after a refused predecessor
-    ∷ prints "plan 6 0 1 0 0 0 0 0 0 0 0\nact 1 0 2 1 - - - - - 0 0 0 0 0\nact 2 1 1 0 - 1 - - - 0 0 0 0 0\nact 3 2 1 0 9:9 - - - - 0 0 0 0 0\nact 4 3 1 0 - 1,3 - - - 0 0 0 0 0\n" "1 placed 1 3\n2 placed 3 4\n3 refused W\n4 refused D\nend 2 2 0 0\n"
+    ∷ prints "plan 6 0 1 0 0 0 0 0 0 0 0\nact 1 0 2 1 - - - - - 0 0 0 0 0\nact 2 1 1 0 - 1 - - - 0 0 0 0 0\nact 3 2 1 0 9:9 - - - - 0 0 0 0 0\nact 4 3 1 0 - 1,3 - - - 0 0 0 0 0\n" "1 placed 1 3\n2 placed 3 4\n3 refused W\n4 refused D\nend 2 2 0 0 0 0\n"
     -- engines at the limit, and over it
-    ∷ prints "plan 2 0 1 0 0 0 0 3 0 0 0\nact 1 0 2 0 - - - - - 2 0 0 0 0\nact 2 1 2 0 - - - - - 1 0 0 0 0\nact 3 2 1 0 - - - - - 1 0 0 0 0\n" "1 placed 0 2\n2 placed 0 2\n3 refused E\nend 2 1 0 0\n"
+    ∷ prints "plan 2 0 1 0 0 0 0 3 0 0 0\nact 1 0 2 0 - - - - - 2 0 0 0 0\nact 2 1 2 0 - - - - - 1 0 0 0 0\nact 3 2 1 0 - - - - - 1 0 0 0 0\n" "1 placed 0 2\n2 placed 0 2\n3 refused E\nend 2 1 0 0 0 0\n"
     -- peaks at the limit, and over it
-    ∷ prints "plan 2 0 1 0 0 0 0 0 3 0 0\nact 1 0 2 0 - - - - - 0 2 0 0 0\nact 2 1 2 0 - - - - - 0 1 0 0 0\nact 3 2 1 0 - - - - - 0 1 0 0 0\n" "1 placed 0 2\n2 placed 0 2\n3 refused P\nend 2 1 0 0\n"
+    ∷ prints "plan 2 0 1 0 0 0 0 0 3 0 0\nact 1 0 2 0 - - - - - 0 2 0 0 0\nact 2 1 2 0 - - - - - 0 1 0 0 0\nact 3 2 1 0 - - - - - 0 1 0 0 0\n" "1 placed 0 2\n2 placed 0 2\n3 refused P\nend 2 1 0 0 0 0\n"
     -- volume at the limit, and over it
-    ∷ prints "plan 2 0 1 0 0 0 0 0 0 3 0\nact 1 0 1 0 - - - - - 0 0 0 2 0\nact 2 1 1 0 - - - - - 0 0 0 1 0\nact 3 2 1 0 - - - - - 0 0 0 1 0\n" "1 placed 0 1\n2 placed 0 1\n3 refused V\nend 2 1 0 3\n"
+    ∷ prints "plan 2 0 1 0 0 0 0 0 0 3 0\nact 1 0 1 0 - - - - - 0 0 0 2 0\nact 2 1 1 0 - - - - - 0 0 0 1 0\nact 3 2 1 0 - - - - - 0 0 0 1 0\n" "1 placed 0 1\n2 placed 0 1\n3 refused V\nend 2 1 0 3 0 0\n"
     -- a shared unit: one after the other, then no room
-    ∷ prints "plan 3 0 1 0 0 0 0 0 0 0 0\nact 1 0 2 0 - - 3,7 - - 0 0 0 0 0\nact 2 1 1 0 - - 7 - - 0 0 0 0 0\nact 3 2 1 0 - - 3 - - 0 0 0 0 0\nact 4 3 1 0 - - 3,7 - - 0 0 0 0 0\n" "1 placed 0 2\n2 placed 2 3\n3 placed 2 3\n4 refused U\nend 3 1 0 0\n"
+    ∷ prints "plan 3 0 1 0 0 0 0 0 0 0 0\nact 1 0 2 0 - - 3,7 - - 0 0 0 0 0\nact 2 1 1 0 - - 7 - - 0 0 0 0 0\nact 3 2 1 0 - - 3 - - 0 0 0 0 0\nact 4 3 1 0 - - 3,7 - - 0 0 0 0 0\n" "1 placed 0 2\n2 placed 2 3\n3 placed 2 3\n4 refused U\nend 3 1 0 0 0 0\n"
     -- the order is by priority, then by line
-    ∷ prints "plan 2 0 1 0 0 0 0 0 0 0 0\nact 1 5 1 0 - - 0 - - 0 0 0 0 0\nact 2 4 1 0 - - 0 - - 0 0 0 0 0\nact 3 4 1 0 - - 0 - - 0 0 0 0 0\n" "2 placed 0 1\n3 placed 1 2\n1 refused U\nend 2 1 0 0\n"
+    ∷ prints "plan 2 0 1 0 0 0 0 0 0 0 0\nact 1 5 1 0 - - 0 - - 0 0 0 0 0\nact 2 4 1 0 - - 0 - - 0 0 0 0 0\nact 3 4 1 0 - - 0 - - 0 0 0 0 0\n" "2 placed 0 1\n3 placed 1 2\n1 refused U\nend 2 1 0 0 0 0\n"
     -- two windows of which the earlier is nearer; a preferred tick beyond every start
-    ∷ prints "plan 9 0 1 0 0 0 0 0 0 0 0\nact 1 0 1 3 0:1,6:7 - - - - 0 0 0 0 0\n" "1 placed 1 2\nend 1 0 0 0\n"
-    ∷ prints "plan 9 0 1 0 0 0 0 0 0 0 0\nact 1 0 2 4095 - - - - - 0 0 0 0 0\n" "1 placed 7 9\nend 1 0 0 0\n"
+    ∷ prints "plan 9 0 1 0 0 0 0 0 0 0 0\nact 1 0 1 3 0:1,6:7 - - - - 0 0 0 0 0\n" "1 placed 1 2\nend 1 0 0 0 0 0\n"
+    ∷ prints "plan 9 0 1 0 0 0 0 0 0 0 0\nact 1 0 2 4095 - - - - - 0 0 0 0 0\n" "1 placed 7 9\nend 1 0 0 0 0 0\n"
     -- a predecessor that is not the last named bars starts, and one that is not the first
     ∷ starts "plan 8 0 1 0 0 0 0 0 0 0 0\nact 1 0 2 3 - - - - - 0 0 0 0 0\nact 2 0 1 0 - - - - - 0 0 0 0 0\nact 3 1 1 0 - 1,2 - - - 0 0 0 0 0\n" 2 2 (5 ∷ 7 ∷ [])
     ∷ starts "plan 8 0 1 0 0 0 0 0 0 0 0\nact 1 0 1 0 - - - - - 0 0 0 0 0\nact 2 0 2 3 - - - - - 0 0 0 0 0\nact 3 1 1 0 - 1,2 - - - 0 0 0 0 0\n" 2 2 (5 ∷ 7 ∷ [])
@@ -54,9 +54,9 @@ limit_examples =
     ∷ starts "plan 9 0 1 0 0 0 0 0 3 0 0\nact 1 0 1 4 - - - - - 0 2 0 0 0\nact 2 1 3 0 - - - - - 0 2 0 0 0\n" 1 32 (0 ∷ 1 ∷ 5 ∷ 6 ∷ [])
     ∷ starts "plan 9 0 1 0 0 0 0 0 3 0 0\nact 1 0 3 4 - - - - - 0 2 0 0 0\nact 2 1 2 0 - - - - - 0 2 0 0 0\n" 1 32 (0 ∷ 2 ∷ 7 ∷ 7 ∷ [])
     -- the sum is over the placed and the candidate, those that hold the tick alone
-    ∷ prints "plan 4 0 1 0 0 0 0 3 3 0 0\nact 1 0 2 0 - - - - - 1 2 0 0 0\nact 2 1 2 0 - - - - - 1 1 0 0 0\nact 3 2 2 0 - - - - - 1 0 0 0 0\nact 4 3 2 0 - - - - - 1 1 0 0 0\n" "1 placed 0 2\n2 placed 0 2\n3 placed 0 2\n4 placed 2 4\nend 4 0 0 0\n"
+    ∷ prints "plan 4 0 1 0 0 0 0 3 3 0 0\nact 1 0 2 0 - - - - - 1 2 0 0 0\nact 2 1 2 0 - - - - - 1 1 0 0 0\nact 3 2 2 0 - - - - - 1 0 0 0 0\nact 4 3 2 0 - - - - - 1 1 0 0 0\n" "1 placed 0 2\n2 placed 0 2\n3 placed 0 2\n4 placed 2 4\nend 4 0 0 0 0 0\n"
     -- three priorities, the lowest on the last line
-    ∷ prints "plan 3 0 1 0 0 0 0 0 0 0 0\nact 1 2 1 0 - - 0 - - 0 0 0 0 0\nact 2 1 1 0 - - 0 - - 0 0 0 0 0\nact 3 0 1 0 - - 0 - - 0 0 0 0 0\n" "3 placed 0 1\n2 placed 1 2\n1 placed 2 3\nend 3 0 0 0\n"
+    ∷ prints "plan 3 0 1 0 0 0 0 0 0 0 0\nact 1 2 1 0 - - 0 - - 0 0 0 0 0\nact 2 1 1 0 - - 0 - - 0 0 0 0 0\nact 3 0 1 0 - - 0 - - 0 0 0 0 0\n" "3 placed 0 1\n2 placed 1 2\n1 placed 2 3\nend 3 0 0 0 0 0\n"
     -- a schedule of two that share a unit breaks U where they hold one tick, and not one after the other
     ∷ not (units_kept (header 9) (held 3 2 ∷ held 4 2 ∷ []))
     ∷ not (units_kept (header 9) (held 8 1 ∷ held 3 2 ∷ held 4 2 ∷ []))

@@ -34,7 +34,7 @@ sixty_fifth n line number at = refuses (activity_lines (header 9) (activities n)
 unfoldable pub reading_examples : List Bool
 reading_examples =
     -- no activities; the last LF missing; an empty line; a field short; another word
-    prints "plan 1 0 1 0 0 0 0 0 0 0 0\n" "end 0 0 0 0\n"
+    prints "plan 1 0 1 0 0 0 0 0 0 0 0\n" "end 0 0 0 0 0 0\n"
     ∷ prints "plan 1 0 1 0 0 0 0 0 0 0 0" "no 2 1\n"
     ∷ prints "plan 1 0 1 0 0 0 0 0 0 0 0\n\n" "no 2 2\n"
     ∷ prints "plan 1 0 1 0 0 0 0 0 0 0\n" "no 2 1\n"
@@ -89,7 +89,7 @@ reading_examples =
     ∷ prints "plan 9 0 1 0 0 0 0 0 0 0 0\nact 1 00 1 0 - - - - - 0 0 0 0 0\n" "no 3 2\n"
     ∷ prints "plan 9 0 1 0 0 0 0 0 0 0 0\nact  0 1 0 - - - - - 0 0 0 0 0\n" "no 3 2\n"
     -- ten digits: a number, in range and over it
-    ∷ prints "plan 1 0 1000000000 0 1000000000 0 0 0 0 0 0\n" "end 0 0 1000000000 0\n"
+    ∷ prints "plan 1 0 1000000000 0 1000000000 0 0 0 0 0 0\n" "end 0 0 1000000000 0 1000000000 0\n"
     ∷ prints "plan 9999999999 0 1 0 0 0 0 0 0 0 0\n" "no 4 1\n"
     -- 6 of the second earlier line, and of the first
     ∷ prints "plan 9 0 1 0 0 0 0 0 0 0 0\nact 1 0 1 0 - - - - - 0 0 0 0 0\nact 2 0 1 0 - - - - - 0 0 0 0 0\nact 2 0 1 0 - - - - - 0 0 0 0 0\n" "no 6 4\n"
@@ -104,9 +104,9 @@ reading_examples =
     ∷ prints "plan 9 0 1 0 0 0 0 0 0 0 0\nact 1 1 1 0 - 9 - - - 0 0 0 0 0\nact 2 0 1 0 - 9 - - - 0 0 0 0 0\n" "no 7 3\n"
     ∷ prints "plan 9 0 1 0 0 0 0 0 0 0 0\nact 1 0 1 0 - 9 - - - 0 0 0 0 0\nact 2 0 1 0 - 9 - - - 0 0 0 0 0\n" "no 7 2\n"
     -- an `after` of the activity two places before
-    ∷ prints "plan 9 0 1 0 0 0 0 0 0 0 0\nact 1 0 1 0 - - - - - 0 0 0 0 0\nact 2 0 1 0 - - - - - 0 0 0 0 0\nact 3 0 1 0 - 1 - - - 0 0 0 0 0\n" "1 placed 0 1\n2 placed 0 1\n3 placed 1 2\nend 3 0 0 0\n"
+    ∷ prints "plan 9 0 1 0 0 0 0 0 0 0 0\nact 1 0 1 0 - - - - - 0 0 0 0 0\nact 2 0 1 0 - - - - - 0 0 0 0 0\nact 3 0 1 0 - 1 - - - 0 0 0 0 0\n" "1 placed 0 1\n2 placed 0 1\n3 placed 1 2\nend 3 0 0 0 0 0\n"
     -- 9: a handover charge that is just reached, and one more
-    ∷ prints "plan 3 0 9 0 2 1 5 0 0 0 0\n" "end 0 0 5 0\n"
+    ∷ prints "plan 3 0 9 0 2 1 5 0 0 0 0\n" "end 0 0 5 0 2 0\n"
     ∷ prints "plan 3 0 9 0 2 1 6 0 0 0 0\n" "no 9 0\n"
     -- 60,000 bytes are read, one more are not
     ∷ filed (10 ∷ same_bytes 59999) 2 1

@@ -32,7 +32,7 @@ outcome_examples =
     ∷ terms_are (outcome_call nine 7) 0 0 (0 ∷ 64 ∷ [])
     ∷ terms_are (outcome_call nine 8) 0 0 (0 ∷ 128 ∷ [])
     ∷ terms_are (outcome_call nine 9) 0 0 (0 ∷ 256 ∷ [])
-    ∷ equal (output nine) (tabbed "1 refused W\n2 refused D\n3 placed 0 2\n4 refused U\n5 refused S\n6 refused E\n7 refused P\n8 refused B\n9 refused V\n10 refused H\nend 1 9 0 0\n")
+    ∷ equal (output nine) (tabbed "1 refused W\n2 refused D\n3 placed 0 2\n4 refused U\n5 refused S\n6 refused E\n7 refused P\n8 refused B\n9 refused V\n10 refused H\nend 1 9 0 0 0 0\n")
     -- no place beyond the last activity, and none in a plan without activities
     ∷ terms_are (outcome_call nine 10) 11 0 []
     ∷ terms_are (outcome_call nine 11) 11 0 []
@@ -46,11 +46,11 @@ outcome_examples =
     ∷ terms_are (report_call (tabbed "plan 9 0 1 0 0 0 0 0 0 0 0\nact 1 0 1 0 - - - - - 0 0 0 0 0\nact 1 0 1 0 - - - - - 0 0 0 0 0\n") 100).terms 6 3 []
     ∷ terms_are (starts_call (tabbed "plan 9 0 1 0 0 0 0 0 0 0 0\nact 1 0 1 0 - - - - - 0 0 0 0 0\nact 1 0 1 0 - - - - - 0 0 0 0 0\n") 0 0 9).terms 6 3 []
     ∷ equal (report_call (tabbed "plan 9 0 1 0 0 0 0 0 0 0 0\nact 1 0 1 0 - - - - - 0 0 0 0 0\nact 1 0 1 0 - - - - - 0 0 0 0 0\n") 100).written []
-    -- a report of twelve bytes into twelve, with its bytes, and into eleven
-    ∷ terms_are (report_call (tabbed "plan 1 0 1 0 0 0 0 0 0 0 0\n") 12).terms 0 0 (12 ∷ [])
-    ∷ equal (report_call (tabbed "plan 1 0 1 0 0 0 0 0 0 0 0\n") 12).written (tabbed "end 0 0 0 0\n")
-    ∷ terms_are (report_call (tabbed "plan 1 0 1 0 0 0 0 0 0 0 0\n") 11).terms 10 0 []
-    ∷ equal (report_call (tabbed "plan 1 0 1 0 0 0 0 0 0 0 0\n") 11).written []
+    -- a report of sixteen bytes into sixteen, with its bytes, and into fifteen
+    ∷ terms_are (report_call (tabbed "plan 1 0 1 0 0 0 0 0 0 0 0\n") 16).terms 0 0 (16 ∷ [])
+    ∷ equal (report_call (tabbed "plan 1 0 1 0 0 0 0 0 0 0 0\n") 16).written (tabbed "end 0 0 0 0 0 0\n")
+    ∷ terms_are (report_call (tabbed "plan 1 0 1 0 0 0 0 0 0 0 0\n") 15).terms 10 0 []
+    ∷ equal (report_call (tabbed "plan 1 0 1 0 0 0 0 0 0 0 0\n") 15).written []
     -- the faults by their numbers, and a refusal by its number and line
     ∷ eqb (number_of TooLong) 1
     ∷ eqb (number_of NotFormed) 2

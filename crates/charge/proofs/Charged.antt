@@ -1,19 +1,20 @@
 -- The charge over the tables is the definition's, where their rows say the schedule.
 -- Assumes nothing.
 use Prim.Native.Nat.{ℕ, zero, suc, ◌+◌, ◌-◌, ◌≤◌}
-use mathlib.Core.Path.{◌≡◌, refl, sym, ap, ◌∙◌}
+use mathlib.Core.Path.{◌≡◌, refl, ap, ◌∙◌}
 use mathlib.Core.Bool.{Bool, true, false, cond, ◌&&◌}
 use mathlib.Core.List.{List, [], ◌∷◌}
 use native.Mathlib.Omega.{arith}
 use lib.Dec.{leb, ltb}
 use lib.IntN.{pos, ◌+ℤ◌, ◌-ℤ◌}
-use lib.Signed.{le_z, lt_z}
+use lib.Signed.{lt_z}
 use borrow.Author.Tests.{leb-true, ltb-true, ltb-false, le-leb, lt-leb}
 use Rattle.rules.specs.Plan.{Header, Entry, Schedule, end}
-use Rattle.rules.specs.Tests.{each, total}
+use Rattle.rules.specs.Tests.{total}
 use Rattle.rules.specs.Hold.{holds}
 use Rattle.rules.specs.Warmup.{warmup}
-use Rattle.rules.specs.MeetsB.{heats, drawn, smaller, charge, charge_kept}
+use Rattle.rules.specs.MeetsB.{heats, drawn, smaller, charge, projected, projection, within_limits, charge_kept}
+use Rattle.rules.specs.declared.Projection.{Projection}
 use Rattle.rules.specs.Reading.{out_of_reach}
 use Rattle.rules.proofs.Local.{bool_ext}
 use Rattle.activity.specs.View.{header_view}
@@ -30,14 +31,18 @@ module _ (h : HeaderStruct) (draw : ℕ → ℕ) (placed : Schedule) (is : (t : 
   charge_is zero = refl
   charge_is (suc t) = λ i. smaller (pos h.capacity) (charge_is t i +ℤ pos h.rate -ℤ pos (is t i))
 
+  pub projection_by : projected (charge_by h draw) h.horizon ≡ projection (header_view h) placed
+  unfolding projection header_view
+  projection_by = λ i. projected (λ t. charge_is t i) h.horizon
+
   pub kept_is : kept_by h draw ≡ charge_kept (header_view h) placed
-  unfolding kept_by charge_kept header_view
-  kept_is = λ i. each (λ t. le_z (pos h.floor) (charge_is t i)) (suc h.horizon) && le_z (pos h.handover) (charge_is h.horizon i)
+  unfolding kept_by charge_kept
+  kept_is = ap (within_limits (header_view h)) projection_by
 
 -- ---- with nothing placed
-pub reach_is : (h : HeaderStruct) → out_of_reach (header_view h) ≡ lt_z (charge_by h (λ _. 0) h.horizon) (pos h.handover)
+pub reach_by : (h : HeaderStruct) (draw : ℕ → ℕ) → ((t : ℕ) → draw t ≡ 0) → lt_z (projected (charge_by h draw) h.horizon).last (pos h.handover) ≡ out_of_reach (header_view h)
 unfolding out_of_reach header_view drawn total
-reach_is h = ap (λ z. lt_z z (pos h.handover)) (sym (charge_is h (λ _. 0) [] (λ _. refl) h.horizon))
+reach_by h draw none = ap (λ (p : Projection). lt_z p.last (pos h.handover)) (projection_by h draw [] none)
 
 -- ---- by the tables
 -- what an entry of a schedule draws
@@ -74,5 +79,5 @@ module _ (h : HeaderStruct) (rows : List Row) where
     pub charge_kept_lem : kept_by h (drawn_in h rows n) ≡ charge_kept (header_view h) placed
     charge_kept_lem = kept_is h _ placed (drawn_is n placed say)
 
-    pub charge_last : charge_by h (drawn_in h rows n) h.horizon ≡ charge (header_view h) placed h.horizon
-    charge_last = charge_is h _ placed (drawn_is n placed say) h.horizon
+    pub projection_is : projected (charge_by h (drawn_in h rows n)) h.horizon ≡ projection (header_view h) placed
+    projection_is = projection_by h _ placed (drawn_is n placed say)

@@ -1,7 +1,7 @@
 -- What is drawn in each tick: by one activity, and by the rows of the tables.
 -- Assumes nothing.
 use Prim.Native.Nat.{ℕ, zero, suc, ◌+◌, ◌*◌, ◌≤◌}
-use mathlib.Core.Path.{◌≡◌, refl, ap, ◌∙◌}
+use mathlib.Core.Path.{◌≡◌, refl}
 use mathlib.Core.Bool.{Bool, true, false, cond}
 use mathlib.Core.List.{List}
 use native.Mathlib.Numerals.{add-one}
@@ -17,7 +17,7 @@ use Rattle.placed.specs.declared.row.Row.{Row}
 use Rattle.placed.specs.Bounds.{AmountsBounded}
 use Rattle.placed.specs.Raised.{Raised}
 use Rattle.placed.proofs.Raising.{cond_most}
-use Rattle.charge.specs.Charge.{OwnDraw, row_draw, draw_of, drawn_in, kept_by, Drawing}
+use Rattle.charge.specs.Charge.{OwnDraw, row_draw, draw_of, drawn_in, Drawing}
 
 -- raised by the heater's draw, then by its own
 pub raised_own : (o : OwnDraw) (old mid new : List ℕ) → Raised o.heat o.start o.heater old mid → Raised o.start o.end o.draw mid new → (t : ℕ) → get_or new t 0 ≡ draw_of o t + get_or old t 0
@@ -59,8 +59,7 @@ pub amounts_fewer : (rows : List Row) (m n : ℕ) → n ≤ m → AmountsBounded
 amounts_fewer rows m n k b =
     record { engines = λ i l. b.engines i (omega arith); peak = λ i l. b.peak i (omega arith); draw = λ i l. b.draw i (omega arith) }
 
--- an array of the draws of a schedule that keeps its charge
-pub drawing : (h : HeaderStruct) (draws : List ℕ) (all : ℕ → ℕ) → ((t : ℕ) → get_or draws t 0 ≡ all t) → length draws ≡ 4096 → HeaderFormed (header_view h) → kept_by h all ≡ true → Drawing draws h
+-- an array of draws, under a first line
+pub drawing : (h : HeaderStruct) (draws : List ℕ) → length draws ≡ 4096 → HeaderFormed (header_view h) → Drawing draws h
 unfolding header_view
-drawing h draws all is size f k =
-    record { known = omega (arith, f.horizon); short = f.horizon.1; first = f.first.1; kept = ap (kept_by h) (λ i t. is t i) ∙ k }
+drawing h draws size f = record { known = omega (arith, f.horizon); short = f.horizon.1 }

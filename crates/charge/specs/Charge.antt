@@ -1,8 +1,7 @@
--- The charge as the code has it: what is drawn in each tick, the charges that it leaves, and whether they keep to the floor and the handover charge.
-use Rattle.std.specs.Prelude.{ℕ, zero, suc, ◌+◌, ◌≤◌, ◌≡◌, Bool, true, cond, ◌&&◌, List, leb, ltb, ℤ, pos, ◌+ℤ◌, ◌-ℤ◌, length, get_or}
-use Rattle.std.specs.Int.Signed.{le_z}
-use Rattle.rules.specs.Tests.{each}
-use Rattle.rules.specs.MeetsB.{smaller}
+-- The charge as the code has it: what is drawn in each tick, the charges that it leaves, and whether their projection keeps to the floor and the handover charge.
+use Rattle.std.specs.Prelude.{ℕ, zero, suc, ◌+◌, ◌≤◌, ◌≡◌, Bool, cond, List, leb, ltb, ℤ, pos, ◌+ℤ◌, ◌-ℤ◌, length, get_or}
+use Rattle.rules.specs.MeetsB.{smaller, projected, within_limits}
+use Rattle.activity.specs.View.{header_view}
 use Rattle.activity.specs.declared.Header.{Header as HeaderStruct}
 use Rattle.placed.specs.Tables.{row_in}
 use Rattle.placed.specs.declared.row.Row.{Row}
@@ -44,13 +43,16 @@ unfoldable pub charge_by : HeaderStruct → (ℕ → ℕ) → ℕ → ℤ
 charge_by h draw zero = pos h.first
 charge_by h draw (suc t) = charge_next h.capacity h.rate (draw t) (charge_by h draw t)
 
--- the charge is at least the floor at each tick to the horizon, and at least the handover charge there
+-- the projection of these charges keeps to the floor and the handover charge
 unfoldable pub kept_by : HeaderStruct → (ℕ → ℕ) → Bool
-kept_by h draw = each (λ t. le_z (pos h.floor) (charge_by h draw t)) (suc h.horizon) && le_z (pos h.handover) (charge_by h draw h.horizon)
+kept_by h draw = within_limits (header_view h) (projected (charge_by h draw) h.horizon)
 
--- sums of draws of a schedule that keeps its charge
+-- draws that reach to the horizon, which is at most 4,096
 pub record Drawing (draws : List ℕ) (h : HeaderStruct) : Type 0 where
   pub known : h.horizon ≤ length draws
   pub short : h.horizon ≤ 4096
-  pub first : h.first ≤ h.capacity
-  pub kept : kept_by h (at_tick draws) ≡ true
+
+-- an array of the charges at each tick to the horizon
+pub record Charges (h : HeaderStruct) (draw : ℕ → ℕ) (xs : List ℤ) : Type 0 where
+  pub size : length xs ≡ 4097
+  pub at : (t : ℕ) → t ≤ h.horizon → get_or xs t (pos 0) ≡ charge_by h draw t

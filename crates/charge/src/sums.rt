@@ -1,4 +1,4 @@
-// What a schedule that keeps its charge draws.
+// What is drawn up to the horizon.
 ghost use Rattle.charge.specs.Charge.{Drawing};
 
 use activity::Header;
@@ -8,5 +8,5 @@ use activity::Header;
 pub struct Drawn<'a> {
     pub header: Header,
     pub draws: &'a [u32],
-    ghost kept: { Drawing draws.now header },
+    ghost drawing: { Drawing draws.now header },
 }

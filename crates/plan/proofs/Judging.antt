@@ -1,6 +1,7 @@
 -- Laws of the whole reading: the checks 1, 7 and 9, and the first line.
 -- Assumes nothing.
 use Rattle.std.proofs.Common.{arith, ◌≡◌, ◌∙◌, ◌≤◌, ◌<◌, ◌+◌, ◌-◌, ℕ, true, false, List, [], ◌∷◌, map, length, take, drop, Result, Ok, Err, refl, sym, ap}
+use Rattle.std.specs.Prelude.{IfOk}
 use Rattle.std.proofs.Math.Option.{none, some}
 use borrow.Author.Tests.{lt-ltb, le-ltb}
 use Rattle.rules.specs.Bytes.{bytes}
@@ -9,9 +10,12 @@ use Rattle.rules.specs.Fields.{value, fault}
 use Rattle.rules.specs.Plan.{Header}
 use Rattle.rules.specs.HeaderLine.{header_of}
 use Rattle.rules.specs.Reading.{accepted, no, formed, on_line, misplaced, line_number, out_of_reach, judged, after_lines, plan_lines, reading}
+use Rattle.rules.specs.WellFormed.{HeaderFormed}
 use Rattle.rules.specs.Refusals.{number_of, refusal_view, read_as}
 use Rattle.rules.specs.declared.Refusal.{Refusal}
 use Rattle.rules.specs.declared.Fault.{Fault}
+use Rattle.rules.proofs.ReadFacts.{formed_facts}
+use Rattle.rules.proofs.LineFacts.{HeaderSaid, header_says}
 use Rattle.activity.specs.View.{header_view}
 use Rattle.activity.specs.declared.Header.{Header as HeaderStruct}
 use Rattle.text.specs.Text.{index_of}
@@ -23,7 +27,7 @@ use Rattle.plan.specs.Reading.{reading_view}
 use Rattle.plan.specs.Reached.{lines_from, lines_view, first_from}
 use Rattle.plan.proofs.Ordering.{view_order}
 use Rattle.plan.proofs.Cutting.{line_with, lines_next, lines_last, not_ended, line_fields}
-use Rattle.plan.proofs.Lining.{form_is, form_not}
+use Rattle.plan.proofs.Lining.{form_is, form_not, of_value}
 
 -- what a refusal is as a reading
 pub refused_view : (q : Refusal) → reading_view (Err q) ≡ no (number_of q.fault) q.line
@@ -111,6 +115,15 @@ module _ (s : List ℕ) (h : length s ≤ 60000) where
         unfolding first_from read_as
         first_read (Ok h) g = first_on (header_view h) (sym g)
         first_read (Err x) g = first_fault (number_of x) (sym g)
+
+-- the numbers of a first line that was read are in their bounds
+pub first_formed : (w : List ℕ) → is_formed (bytes "plan") 12 w ≡ true → (r : Result HeaderStruct Fault) → read_as header_view r ≡ header_of (split_on 9 w) → IfOk r (λ h. HeaderFormed (header_view h))
+unfolding read_as
+first_formed w f (Ok h) e =
+    let l = formed_facts (bytes "plan") 12 (line_with w) (form_is (bytes "plan") 12 w ∙ f) in
+    let r : HeaderSaid (line_with w) (header_view h) = of_value (header_says (line_with w) l) (rw (line_fields w) (sym e)) in
+    r.formed
+first_formed w f (Err x) e = tt
 
 -- ---- what is next, once the first line is read
 

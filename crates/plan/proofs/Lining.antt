@@ -38,7 +38,7 @@ unfolding formed
 form_not word count line e = rw e
 
 -- what is said of a value
-of_value : {A : Type 0} {P : A → Type 0} {F : ℕ → Type 0} {x : Read A} {a : A} → Says P F x → x ≡ value a → P a
+pub of_value : {A : Type 0} {P : A → Type 0} {F : ℕ → Type 0} {x : Read A} {a : A} → Says P F x → x ≡ value a → P a
 of_value {P = P} (said p) e = subst P (cc) p
 of_value (faulted f) e = cc
 

@@ -1,5 +1,6 @@
 // A plan file, read: its first line, its other lines, and what is judged once all are read.
 ghost use Rattle.std.specs.Prelude.{◌≡◌, ◌+◌, ◌<◌, ◌≤◌, IfOk, length};
+ghost use Rattle.rules.specs.WellFormed.{HeaderFormed};
 ghost use Rattle.rules.specs.Reading.{accepted, after_lines, reading};
 ghost use Rattle.text.specs.Text.{index_of};
 ghost use Rattle.activity.specs.View.{header_view};
@@ -29,6 +30,7 @@ fn read_first(s: &[u8], end: usize) -> Result<Header, Fault>
     requires { (end ≡ index_of 10 s.now) × (end ≤ length s.now) × (length s.now ≤ 60000) }
     ensures value { in_order (reading s.now) ≡ first_from s.now end result }
     ensures ended { IfOk result (λ h. end < length s.now) }
+    ensures formed { IfOk result (λ h. HeaderFormed (header_view h)) }
 {
     let line = &s[..end];
     if end == s.len() || !formed(line, &PLAN, 12) {
@@ -39,6 +41,7 @@ fn read_first(s: &[u8], end: usize) -> Result<Header, Fault>
 
 // What the file says, with these lines.
 fn judge<'a>(file: &File<'a>, lines: Lines) -> Result<Plan<'a>, Refusal>
+    requires formed { HeaderFormed (header_view file.now.header) }
     requires said { LinesIn (header_view file.now.header) file.now.bytes.now lines }
     requires read { in_order (reading file.now.bytes.now) ≡ in_order (after_lines (accepted (plan_of (header_view file.now.header) file.now.bytes.now lines))) }
     ensures value { reading_view result ≡ in_order (reading file.now.bytes.now) }

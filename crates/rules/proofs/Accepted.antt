@@ -24,6 +24,7 @@ use Rattle.rules.proofs.ListAt.{mem_at, at_mem}
 use Rattle.rules.proofs.PlaceFacts.{NamedAfter, Unnamed, AfterTold, after_told, order_mem, line_number_lem}
 use Rattle.rules.proofs.Order.{order_length}
 use Rattle.rules.proofs.ReadFacts.{each_formed, Tells, told, refusing, PlanRead, lines_tell}
+use Rattle.rules.proofs.Projecting.{reach_is}
 
 module _ (s : List ℕ) (p : Plan) (R : PlanRead s p) where
   well_formed : NamedAfter [] (order p.activities) (length (order p.activities)) → WellFormed p
@@ -48,12 +49,12 @@ module _ (s : List ℕ) (p : Plan) (R : PlanRead s p) where
       (no_earlier p r.0 t.place t.id R.begins R.text r.1 (rw (order_length p.activities) at t.inside) r.2 (λ k id h m. t.named k id h m refl) t.names t.not_before)
 
   judged_tells : (o : Option Activity) → AfterTold [] (order p.activities) o → Tells (TextOf s) (FileFault s) (judged p o)
-  unfolding judged out_of_reach
+  unfolding judged
   judged_tells (some a) t = refusing (misplaced_fault a t)
   judged_tells none t =
       by_test (Tells (TextOf s) (FileFault s)) (out_of_reach p.header)
-      (λ e. refusing (not_reachable p (well_formed t) R.text (lt_z_true e)))
-      (λ e. told (well_formed t, lt_z_false e, R.text))
+      (λ e. refusing (not_reachable p (well_formed t) R.text (lt_z_true (sym (reach_is p.header) ∙ e))))
+      (λ e. told (well_formed t, lt_z_false (sym (reach_is p.header) ∙ e), R.text))
 
 file_tells : (s : List ℕ) {r : Reading} → Tells (PlanRead s) (FileFault s) r → Tells (TextOf s) (FileFault s) (after_lines r)
 unfolding after_lines

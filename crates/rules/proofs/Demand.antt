@@ -10,6 +10,7 @@ use borrow.Author.Tests.{lt-leb, le-ltb}
 use Rattle.rules.specs.Plan.{Header, Activity, Plan, Schedule, end as ends}
 use Rattle.rules.specs.Lines.{lines}
 use Rattle.rules.specs.Order.{order}
+use Rattle.rules.specs.MeetsB.{projection}
 use Rattle.rules.specs.Outcomes.{no_activity, reply, added, activity_at, placed, outcome, finished}
 use Rattle.rules.specs.Report.{outcome_line, outcome_lines, end_line, report, answer_to, output}
 use Rattle.rules.specs.Calls.{outcome_of, outcome_call, report_of, report_call, runs, starts_of, starts_call}
@@ -21,6 +22,7 @@ use Rattle.rules.proofs.Answers.{replied}
 use Rattle.rules.specs.Kept.{Kept}
 use Rattle.rules.proofs.Kept.{none_kept, more_kept}
 use Rattle.rules.proofs.Limits.{limits}
+use Rattle.rules.proofs.Projecting.{projected_right}
 use Rattle.rules.proofs.Runs.{runs_right}
 use Rattle.rules.proofs.SameRuns.{call_few}
 use Rattle.rules.proofs.Order.{order_right, order_length}
@@ -76,11 +78,11 @@ module _ (p : Plan) where
   n = length p.activities
 
   abbrev end : List ℕ
-  end = end_line p.header n (finished p)
+  end = end_line n (finished p) (projection p.header (finished p))
 
   line_count_lem : length (lines (report p)) ≡ suc n
   unfolding report
-  line_count_lem = lines_count p n end ∙ omega (arith, ap length (end_line_lem p.header n (finished p)))
+  line_count_lem = lines_count p n end ∙ omega (arith, ap length (end_line_lem n (finished p) (projection p.header (finished p))))
 
   place_line : (k : ℕ) → k < n → get_or (lines (report p)) k [] ≡ outcome_line (activity_at p k) (outcome p k)
   unfolding report
@@ -89,7 +91,7 @@ module _ (p : Plan) where
   last_line : get_or (lines (report p)) n [] ≡ end
   unfolding report
   last_line =
-      ap (λ i. get_or (lines (outcome_lines p n ++ end)) i []) (sym (add-zero n)) ∙ lines_behind p n 0 end ∙ ap (λ ls. get_or ls 0 []) (end_line_lem p.header n (finished p))
+      ap (λ i. get_or (lines (outcome_lines p n ++ end)) i []) (sym (add-zero n)) ∙ lines_behind p n 0 end ∙ ap (λ ls. get_or ls 0 []) (end_line_lem n (finished p) (projection p.header (finished p)))
 
 -- the activity at a place is well formed
 place_formed : (p : Plan) → WellFormed p → (k : ℕ) → k < length p.activities → ActivityFormed p.header (activity_at p k)
@@ -105,7 +107,7 @@ unfolding runs
 runs_by p k m = rw (← by_outcomes p k) (runs_right _ _)
 
 pub demand3 : DemandThree
-unfolding finished outcome
+unfolding finished outcome projection
 demand3 s p e =
     let F : WellFormed p × Reachable p = accepted_formed s p e in
     record {
@@ -116,7 +118,7 @@ demand3 s p e =
             right = λ k h. subst (λ ps. Right p.header ps (activity_at p k) (outcome p k)) (by_outcomes p k) (replied p.header (placed p k) (activity_at p k));
             line_count = rw (← report_by_lem p) (line_count_lem p);
             line = λ k h. rw (← report_by_lem p) (place_line p k h);
-            last = rw (← report_by_lem p, ← by_outcomes p (length p.activities)) (last_line p);
+            last = (projection p.header (placed_by p (outcome p) (length p.activities)), projected_right _ _, rw (← report_by_lem p, ← by_outcomes p (length p.activities)) (last_line p));
             whole = rw (← by_outcomes p (length p.activities)) (limits _ _ (placed_kept p F.0 F.1 (length p.activities)) (placed_in_time p (length p.activities)));
           };
       called = λ k h. unfold outcome_call outcome_of in (rw (e, lt-leb _ _ h));

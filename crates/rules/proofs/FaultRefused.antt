@@ -17,7 +17,7 @@ use Rattle.rules.specs.Plan.{Header, Activity, Plan}
 use Rattle.rules.specs.Lines.{lines, ended, fields}
 use Rattle.rules.specs.Order.{order}
 use Rattle.rules.specs.Outcomes.{no_activity, activity_at}
-use Rattle.rules.specs.Reading.{no, formed, on_line, has_id, activity_lines, plan_lines, misplaced, line_number, out_of_reach, judged, after_lines, reading}
+use Rattle.rules.specs.Reading.{no, formed, on_line, has_id, activity_lines, plan_lines, misplaced, line_number, judged, after_lines, reading}
 use Rattle.rules.specs.Print.{header_text, activity_text, plan_text}
 use Rattle.rules.specs.WellFormed.{HeaderFormed}
 use Rattle.rules.specs.Forms.{LineFormed, LineFault, no_lf, wrong_count, wrong_word, FieldsFault, plan_forms}
@@ -32,6 +32,7 @@ use Rattle.rules.proofs.PlaceFacts.{after_told, first_told, line_number_lem}
 use Rattle.rules.proofs.PlanBack.{lines_back, printed_back, left_to_judge}
 use Rattle.rules.proofs.ReadFacts.{formed_facts, each_formed}
 use Rattle.rules.proofs.FieldFaults.{header_fault, activity_fault}
+use Rattle.rules.proofs.Projecting.{reach_is}
 
 -- check 2 passes a line that is formed, and no other
 line_formed : (word : List ℕ) (count : ℕ) (l : List ℕ) → LineFormed word count l → formed word count l ≡ true
@@ -91,7 +92,7 @@ first_misplaced p k id h named names other =
     (misplaced [] (order p.activities)) (after_told [] (order p.activities))
 
 file_refused : (s : List ℕ) {k n : ℕ} → FileFault s k n → after_lines (plan_lines (lines s)) ≡ no k n
-unfolding lines plan_lines after_lines judged out_of_reach activity_at plan_text
+unfolding lines plan_lines after_lines judged activity_at plan_text
 file_refused s (empty e) = rw e
 file_refused s (plan_line f) = rw (first_line (lines s) f)
 file_refused s (plan_field L f) = rw (first_fields (lines s) L f)
@@ -100,7 +101,7 @@ file_refused s (no_earlier p i k id E e hi hk q named names other) =
     let line : line_number (activity_at p k).id 2 p.activities ≡ 2 + i = line_number_lem _ 2 i p.activities hi (ap (λ (a : Activity). a.id) q) (λ j l r. E.ids j i l hi (r ∙ sym (ap (λ (a : Activity). a.id) q))) in
     let two : 2 + i ≡ suc (suc i) = omega arith in
     rw (← e, printed_back p.header p.activities E.header E.few (each_formed E) E.ids, first_misplaced p k id hk named names other, line, two)
-file_refused s (not_reachable p W e l) = rw (← e, left_to_judge p W, lt_lt_z _ _ l)
+file_refused s (not_reachable p W e l) = rw (← e, left_to_judge p W, reach_is p.header ∙ lt_lt_z _ _ l)
 
 pub fault_refused : (s : List ℕ) (k n : ℕ) → Fault s k n → reading s ≡ no k n
 unfolding reading

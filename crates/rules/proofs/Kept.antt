@@ -6,8 +6,7 @@ use mathlib.Core.List.{[], ◌∷◌}
 use native.Mathlib.Omega.{arith}
 use lib.Dec.{leb, leb-zero}
 use lib.IntN.{ℤ, pos, ◌+ℤ◌, ◌-ℤ◌}
-use lib.Signed.{le_z, ◌≤ℤ◌}
-use borrow.Author.Tests.{le-leb}
+use lib.Signed.{◌≤ℤ◌}
 use Rattle.rules.specs.Plan.{Header, Activity, Schedule, at}
 use Rattle.rules.specs.Tests.{every, total}
 use Rattle.rules.specs.MeetsU.{units_kept}
@@ -21,15 +20,14 @@ use Rattle.rules.specs.Conditions.{conditions, meets}
 use Rattle.rules.specs.Kept.{Kept}
 use Rattle.rules.specs.WellFormed.{HeaderFormed}
 use Rattle.rules.specs.Demand.{Valid}
-use Rattle.rules.proofs.Tests.{each_all, and_both, is_true}
+use Rattle.rules.proofs.Tests.{each_all, and_both}
+use Rattle.rules.proofs.Signed.{signed}
+use Rattle.rules.proofs.Projecting.{kept_when}
 
 -- with nothing placed
 load_kept_none : (f : Activity → ℕ) (limit : ℕ) (h : Header) → load_kept f limit h [] ≡ true
 unfolding load_kept load total
 load_kept_none f limit h = each_all _ _ (λ t _. leb-zero limit)
-
-le_z_true : {a b : ℤ} → a ≤ℤ b → le_z a b ≡ true
-le_z_true l = is_true _ l.le
 
 module _ (h : Header) (F : HeaderFormed h) (reachable : pos h.handover ≤ℤ charge h [] h.horizon) where
   record Charged (c : ℤ) : Type 0 where
@@ -51,8 +49,7 @@ module _ (h : Header) (F : HeaderFormed h) (reachable : pos h.handover ≤ℤ ch
   charged (suc t) = next (charge h [] t) (charged t)
 
   charge_none : charge_kept h [] ≡ true
-  unfolding charge_kept
-  charge_none = and_both (each_all _ _ (λ t _. rw (charged t).is (le-leb _ _ (charged t).enough))) (le_z_true reachable)
+  charge_none = (kept_when h []).1 (record { floor = λ t _. let C = charged t in rw C.is (omega (signed, C.enough)); handover = reachable })
 
   pub none_kept : Kept h []
   unfolding units_kept needs_kept every engines_kept peaks_kept volume_kept total_volume total

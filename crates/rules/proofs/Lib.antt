@@ -17,6 +17,7 @@ pub mod Runs
 pub mod SameRuns
 pub mod Signed
 pub mod Level
+pub mod Projecting
 pub mod Terms
 pub mod Refusing
 pub mod Filling
@@ -43,6 +44,7 @@ pub mod FaultRefused
 pub mod Accepted
 pub mod Acceptance
 pub mod ReportLines
+pub mod ReportSize
 pub mod Demand
 pub mod SameAnswers
 pub mod Determined

@@ -1,14 +1,12 @@
 -- What the six tests over a whole schedule say of it.
 use Prim.Native.Nat.{ℕ, zero, suc, ◌+◌, ◌-◌, ◌<◌, ◌≤◌}
-use mathlib.Core.Path.{◌≡◌, sym, subst}
+use mathlib.Core.Path.{◌≡◌, subst}
 use mathlib.Core.Bool.{true, not, ◌&&◌}
 use mathlib.Core.List.{[], ◌∷◌, Memᴰ}
 use native.Mathlib.Omega.{arith}
 use native.Mathlib.Nat.{not-suc-le-zero}
 use lib.Dec.{T, leb}
-use lib.IntN.{ℤ, pos}
 use lib.ListN.{length}
-use lib.Signed.{le_z, ◌≤ℤ◌, le_z_yes}
 use borrow.Author.Tests.{leb-true, ltb-true, eqb-true, not-true}
 use Rattle.rules.specs.Plan.{Header, Setting, Entry, Schedule, end}
 use Rattle.rules.specs.Tests.{each, every}
@@ -17,15 +15,12 @@ use Rattle.rules.specs.MeetsU.{share, clash, meets_u, units_kept}
 use Rattle.rules.specs.MeetsS.{standing, met, needs_kept}
 use Rattle.rules.specs.MeetsE.{engines_kept}
 use Rattle.rules.specs.MeetsP.{peaks_kept}
-use Rattle.rules.specs.MeetsB.{charge, charge_kept}
 use Rattle.rules.specs.MeetsV.{volume_kept}
 use Rattle.rules.specs.Demand.{nth, Limits}
 use Rattle.rules.proofs.Tests.{each_at, ever_at, every_at, every_mem, and_left, and_right, and_both, both_ways}
 use Rattle.rules.specs.Kept.{Kept}
 use Rattle.rules.proofs.Local.{load_kept_lem}
-
-le_of : {a b : ℤ} → le_z a b ≡ true → a ≤ℤ b
-le_of e = le_z_yes (subst T (sym e) tt)
+use Rattle.rules.proofs.Projecting.{kept_when}
 
 -- a test of U
 clear : (h : Header) (p q : Entry) (t : ℕ) → not (clash h p q) ≡ true → t < h.horizon → share p q ≡ true → holds t p ≡ true → holds t q ≡ true → ⊥
@@ -59,7 +54,7 @@ unfolding holds
 in_plan h e t l f = let till : t < end e = ltb-true _ _ (and_right (leb e.start t) _ f) in omega arith
 
 pub limits : (h : Header) (ps : Schedule) → Kept h ps → ((i : ℕ) → i < length ps → end (nth ps i) ≤ h.horizon) → Limits h ps
-unfolding engines_kept peaks_kept charge_kept volume_kept
+unfolding engines_kept peaks_kept volume_kept
 limits h ps K T =
     record {
       in_time = T;
@@ -67,7 +62,6 @@ limits h ps K T =
       needs = met_at h ps K.needs;
       engines = (load_kept_lem _ _ h ps).0 K.engines;
       peaks = (load_kept_lem _ _ h ps).0 K.peaks;
-      floor = λ t k. le_of (each_at (λ t. le_z (pos h.floor) (charge h ps t)) (suc h.horizon) t (and_left _ _ K.charge) (omega arith));
-      handover = le_of (and_right (each (λ t. le_z (pos h.floor) (charge h ps t)) (suc h.horizon)) _ K.charge);
+      charge = (kept_when h ps).0 K.charge;
       volume = leb-true _ _ K.volume;
     }

@@ -11,6 +11,7 @@ use Rattle.rules.specs.Order.{insert_by_priority, order}
 use Rattle.rules.specs.Ordered.{ordered}
 use Rattle.rules.specs.OrderRight.{nth_activity}
 use Rattle.rules.specs.Outcomes.{no_activity, activity_at, placed, outcome, finished}
+use Rattle.rules.specs.MeetsB.{projection}
 use Rattle.rules.specs.Report.{outcome_lines, end_line, report}
 use Rattle.rules.specs.Calls.{runs}
 use Rattle.rules.proofs.Order.{order_right, order_length}
@@ -62,7 +63,7 @@ module _ (p : Plan) where
 
   pub same_report : report (ordered p) ≡ report p
   unfolding report
-  same_report = rw (same_count, same_finished) (ap (λ (w : List ℕ). w ++ end_line p.header (length p.activities) (finished p)) (same_lines (length p.activities)))
+  same_report = rw (same_count, same_finished) (ap (λ (w : List ℕ). w ++ end_line (length p.activities) (finished p) (projection p.header (finished p))) (same_lines (length p.activities)))
 
   pub same_runs : (k m : ℕ) → runs (ordered p) k m ≡ runs p k m
   unfolding runs

@@ -23,6 +23,7 @@ use Rattle.rules.proofs.LineBack.{header_back, activity_back}
 use Rattle.rules.proofs.Short.{plan_length}
 use Rattle.rules.proofs.Ids.{Distinct, new_id, none_misplaced}
 use Rattle.rules.proofs.Order.{order_length}
+use Rattle.rules.proofs.Projecting.{reach_is}
 
 module _ (h : Header) (xs : List Activity) (g : HeaderFormed h) (few : length xs ≤ 64) (each : (a : Activity) → Memᴰ a xs → ActivityFormed h a) (ids : Distinct xs) where
   -- the lines of the activities `rest`, after those of earlier lines, and then more lines
@@ -65,7 +66,7 @@ left_to_judge p w =
     )
 
 pub read_printed : (p : Plan) → WellFormed p → Reachable p → reading (plan_text p) ≡ accepted p
-unfolding reading judged out_of_reach
+unfolding reading judged
 read_printed p w r =
-    let reached : out_of_reach p.header ≡ false = le_lt_z _ _ r in
+    let reached : out_of_reach p.header ≡ false = reach_is p.header ∙ le_lt_z _ _ r in
     rw (le-ltb 60000 (length (plan_text p)) (plan_length p w), left_to_judge p w, reached)

@@ -9,12 +9,13 @@ use native.Mathlib.Nat.{not-suc-le-zero, zero-add, add-zero}
 use lib.Dec.{eqb}
 use lib.ListN.{length, get_or}
 use Rattle.rules.specs.Tests.{every}
-use Rattle.rules.specs.Plan.{Header, Activity, Plan, Schedule}
+use Rattle.rules.specs.Plan.{Activity, Plan, Schedule}
 use Rattle.rules.specs.Number.{decimal}
 use Rattle.rules.specs.Lines.{lines}
 use Rattle.rules.specs.Conditions.{has, condition_letters, letters_from, letters_of}
 use Rattle.rules.specs.Outcomes.{activity_at, outcome}
 use Rattle.rules.specs.Report.{outcome_line, outcome_lines, end_line}
+use Rattle.rules.specs.declared.Projection.{Projection}
 use Rattle.rules.specs.declared.Outcome.{Outcome}
 use Rattle.rules.specs.declared.Outcome.TheVariants.{Placed, Refused}
 use Rattle.rules.proofs.Tests.{and_left, and_right, and_both, last_or}
@@ -42,13 +43,13 @@ unfolding outcome_line every
 outcome_line_lem a (Placed s) rest = lines_line _ rest (simp number_free)
 outcome_line_lem a (Refused m) rest = lines_line _ rest (simp (number_free, letters_free))
 
-end_next : (h : Header) (count : ℕ) (placed : Schedule) (rest : List ℕ) → lines (end_line h count placed ++ rest) ≡ end_line h count placed ∷ lines rest
+end_next : (count : ℕ) (placed : Schedule) (p : Projection) (rest : List ℕ) → lines (end_line count placed p ++ rest) ≡ end_line count placed p ∷ lines rest
 unfolding end_line every
-end_next h count placed rest = lines_line _ rest (simp number_free)
+end_next count placed p rest = lines_line _ rest (simp number_free)
 
-pub end_line_lem : (h : Header) (count : ℕ) (placed : Schedule) → lines (end_line h count placed) ≡ end_line h count placed ∷ []
+pub end_line_lem : (count : ℕ) (placed : Schedule) (p : Projection) → lines (end_line count placed p) ≡ end_line count placed p ∷ []
 unfolding lines
-end_line_lem h count placed = rw append-nil at (end_next h count placed [])
+end_line_lem count placed p = rw append-nil at (end_next count placed p [])
 
 module _ (p : Plan) where
   -- behind the lines of the first k places come those of the rest

@@ -6,9 +6,9 @@ use mathlib.Core.Bool.{Bool, true, false, not, cond}
 use native.Mathlib.Omega.{arith}
 use lib.Dec.{T, ltb, leb→le, le→leb, ltb→lt, nltb→le, nleb→lt}
 use lib.IntN.{ℤ, pos, negsuc, neg_ℤ, sub_ℕ, ◌+ℤ◌, ◌-ℤ◌}
-use lib.Signed.{le_z, lt_z, ◌≤ℤ◌, ◌<ℤ◌, lt_z_yes, lt_z_no, clash_ℤ}
+use lib.Signed.{le_z, lt_z, ◌≤ℤ◌, ◌<ℤ◌, le_z_yes, lt_z_yes, lt_z_no, clash_ℤ}
 use borrow.Author.Tests.{not-true, not-false}
-use Rattle.rules.proofs.Tests.{is_false}
+use Rattle.rules.proofs.Tests.{is_true, is_false}
 
 -- z is `above z` less `under z`
 abbrev pub above : ℤ → ℕ
@@ -64,7 +64,13 @@ le_parts {a} {b} h = le_yes a b h.le
 -- `omega signed` reads and proves orders of signed whole numbers
 pub ruleset signed = (arith, le_parts, le_of)
 
--- the test of the order says what the order says
+-- the tests of the orders say what the orders say
+pub le_z_true : {a b : ℤ} → le_z a b ≡ true → a ≤ℤ b
+le_z_true e = le_z_yes (subst T (sym e) tt)
+
+pub le_le_z : (a b : ℤ) → a ≤ℤ b → le_z a b ≡ true
+le_le_z a b h = is_true (le_z a b) h.le
+
 pub lt_z_true : {a b : ℤ} → lt_z a b ≡ true → a <ℤ b
 lt_z_true e = lt_z_yes (subst T (sym e) tt)
 

@@ -8,16 +8,18 @@ use Rattle.rules.specs.Reading.{accepted, reading}
 use Rattle.rules.specs.Load.{load}
 use Rattle.rules.specs.MeetsU.{share}
 use Rattle.rules.specs.MeetsS.{standing}
-use Rattle.rules.specs.MeetsB.{charge}
+use Rattle.rules.specs.MeetsB.{charge, projection}
 use Rattle.rules.specs.MeetsV.{total_volume}
 use Rattle.rules.specs.Conditions.{condition_count, all_conditions, meets, has, meets_set}
 use Rattle.rules.specs.Outcomes.{starts, distance, added, no_activity, activity_at}
 use Rattle.rules.specs.RunsRight.{RunsRight}
+use Rattle.rules.specs.ProjectionRight.{ProjectionRight}
 use Rattle.rules.specs.Report.{outcome_line, end_line, output}
 use Rattle.rules.specs.Calls.{full, outcome_values, outcome_call, filling, report_call, starts_call}
 use Rattle.rules.specs.declared.Outcome.{Outcome}
 use Rattle.rules.specs.declared.Outcome.TheVariants.{Placed, Refused}
 use Rattle.rules.specs.declared.Interval.{Interval}
+use Rattle.rules.specs.declared.Projection.{Projection}
 
 -- s is a start of a in the plan: s + d is at most T
 abbrev pub Start : Header → Activity → ℕ → Type 0
@@ -59,6 +61,11 @@ module _ (h : Header) (before : Schedule) (a : Activity) where
 abbrev pub nth : Schedule → ℕ → Entry
 nth ps i = get_or ps i (at no_activity 0)
 
+-- "charge c is at least the floor at ticks 0 to T, and at least the handover charge at T" (01, B)
+pub record ChargeKept (h : Header) (ps : Schedule) : Type 0 where
+  pub floor : (t : ℕ) → t ≤ h.horizon → pos h.floor ≤ℤ charge h ps t
+  pub handover : pos h.handover ≤ℤ charge h ps h.horizon
+
 -- "The finished schedule breaks no limit of the plan at any tick"
 pub record Limits (h : Header) (ps : Schedule) : Type 0 where
   -- each ends by the horizon
@@ -69,8 +76,7 @@ pub record Limits (h : Header) (ps : Schedule) : Type 0 where
   pub needs : (i t : ℕ) → i < length ps → holds t (nth ps i) ≡ true → (n : Setting) → Memᴰ n (nth ps i).activity.needs → (standing ps n.variable t).value ≡ n.value
   pub engines : (t : ℕ) → t < h.horizon → load (λ a. a.engines) ps t ≤ h.engines
   pub peaks : (t : ℕ) → t < h.horizon → load (λ a. a.peak) ps t ≤ h.peak
-  pub floor : (t : ℕ) → t ≤ h.horizon → pos h.floor ≤ℤ charge h ps t
-  pub handover : pos h.handover ≤ℤ charge h ps h.horizon
+  pub charge : ChargeKept h ps
   pub volume : total_volume ps ≤ h.volume
 
 -- the schedule of those that the answers place at the first k places, each at its start
@@ -83,9 +89,13 @@ abbrev pub lines_by : Plan → (ℕ → Outcome) → ℕ → List ℕ
 lines_by p answers zero = []
 lines_by p answers (suc k) = lines_by p answers k ++ outcome_line (activity_at p k) (answers k)
 
--- the report as the answers give it
+-- the finished schedule and the report as the answers give them
+abbrev pub finished_by : Plan → (ℕ → Outcome) → Schedule
+finished_by p answers = placed_by p answers (length p.activities)
+
 abbrev pub report_by : Plan → (ℕ → Outcome) → List ℕ
-report_by p answers = let n = length p.activities in lines_by p answers n ++ end_line p.header n (placed_by p answers n)
+report_by p answers =
+    let n = length p.activities in lines_by p answers n ++ end_line n (finished_by p answers) (projection p.header (finished_by p answers))
 
 -- the answers are right at every place of the plan, and so are the lines of the report that they give
 pub record RightAnswers (p : Plan) (answers : ℕ → Outcome) : Type 0 where
@@ -94,9 +104,10 @@ pub record RightAnswers (p : Plan) (answers : ℕ → Outcome) : Type 0 where
   -- "and so does the line of that place in every report written": its lines are those of the places, then the end line
   pub line_count : length (lines (report_by p answers)) ≡ suc (length p.activities)
   pub line : (k : ℕ) → k < length p.activities → get_or (lines (report_by p answers)) k [] ≡ outcome_line (activity_at p k) (answers k)
-  pub last : get_or (lines (report_by p answers)) (length p.activities) [] ≡ end_line p.header (length p.activities) (placed_by p answers (length p.activities))
+  -- the end line has the charge at T of the finished schedule, its lowest charge and the first tick that has it (02, [1])
+  pub last : (q : Projection) × ProjectionRight (charge p.header (finished_by p answers)) p.header.horizon q × (get_or (lines (report_by p answers)) (length p.activities) [] ≡ end_line (length p.activities) (finished_by p answers) q)
   -- "The finished schedule breaks no limit of the plan at any tick"
-  pub whole : Limits p.header (placed_by p answers (length p.activities))
+  pub whole : Limits p.header (finished_by p answers)
 
 -- rs are the runs of the starts at place k that meet the set m beside those that the answers place at the places before it
 abbrev pub RunsBy : Plan → (ℕ → Outcome) → ℕ → ℕ → List Interval → Type 0

@@ -1,18 +1,21 @@
--- The facts determine the scheduling order, the runs, the answer to an activity, and what is read of a file: they hold of these and of nothing else. Whoever reads the facts (OrderRight, RunsRight, Right, TextOf, Fault) need not read Order, Runs, Answer, HeaderLine, ActivityLine and Reading, which say how these are found.
-use Rattle.std.specs.Prelude.{ℕ, ◌<◌, ◌≤◌, ◌≡◌, ◌↔◌, ◌⊎◌, Bool, List, length}
-use Rattle.rules.specs.Plan.{Header, Activity, Plan, Schedule}
+-- The facts determine the scheduling order, the runs, the charge projection, the answer to an activity, and what is read of a file: they hold of these and of nothing else. Whoever reads the facts (OrderRight, RunsRight, ProjectionRight, ChargeKept, Right, TextOf, Fault) need not read Order, Runs, the projection in MeetsB (from `further` on), Answer, HeaderLine, ActivityLine and Reading, which say how these are found.
+use Rattle.std.specs.Prelude.{ℕ, ◌<◌, ◌≤◌, ◌≡◌, ◌↔◌, ◌⊎◌, Bool, true, List, [], ◌∷◌, ℤ, pos, ◌<ℤ◌, length}
+use Rattle.rules.specs.Plan.{Header, Activity, Plan, Schedule, at}
 use Rattle.rules.specs.Order.{order}
 use Rattle.rules.specs.OrderRight.{OrderRight}
 use Rattle.rules.specs.Runs.{runs_from}
 use Rattle.rules.specs.RunsRight.{RunsRight}
+use Rattle.rules.specs.MeetsB.{charge, projected, charge_kept, meets_b}
+use Rattle.rules.specs.ProjectionRight.{ProjectionRight}
 use Rattle.rules.specs.Outcomes.{reply}
-use Rattle.rules.specs.Reading.{accepted, no, reading}
+use Rattle.rules.specs.Reading.{accepted, no, out_of_reach, reading}
 use Rattle.rules.specs.Print.{plan_text}
 use Rattle.rules.specs.WellFormed.{WellFormed, Reachable}
 use Rattle.rules.specs.Faults.{Fault}
-use Rattle.rules.specs.Demand.{Right, RightAnswers, placed_by, report_by}
+use Rattle.rules.specs.Demand.{Right, ChargeKept, RightAnswers, placed_by, report_by}
 use Rattle.rules.specs.declared.Outcome.{Outcome}
 use Rattle.rules.specs.declared.Interval.{Interval}
+use Rattle.rules.specs.declared.Projection.{Projection}
 
 -- the scheduling order of the activities xs is determined by the facts
 pub record OrderDetermined (xs : List Activity) : Type 0 where
@@ -25,6 +28,17 @@ pub record OrderDetermined (xs : List Activity) : Type 0 where
 pub record RunsDetermined (pass : ℕ → Bool) (n : ℕ) : Type 0 where
   pub exactly : (rs : List Interval) → (runs_from pass 0 n ≡ rs) ↔ RunsRight pass n rs
   pub same : (rs qs : List Interval) → RunsRight pass n rs → RunsRight pass n qs → rs ≡ qs
+
+-- so is the projection of the charges c at ticks 0 to n
+pub record ProjectionDetermined (c : ℕ → ℤ) (n : ℕ) : Type 0 where
+  pub exactly : (p : Projection) → (projected c n ≡ p) ↔ ProjectionRight c n p
+  pub same : (p other : Projection) → ProjectionRight c n p → ProjectionRight c n other → p ≡ other
+
+-- what is judged by a projection is what 01 says of the charge: B with the candidate added, the finished schedule, and 9 with nothing placed
+pub record ProjectionJudged (h : Header) : Type 0 where
+  pub candidate : (placed : Schedule) (a : Activity) (s : ℕ) → (meets_b h placed a s ≡ true) ↔ ChargeKept h (at a s ∷ placed)
+  pub whole : (placed : Schedule) → (charge_kept h placed ≡ true) ↔ ChargeKept h placed
+  pub reach : (out_of_reach h ≡ true) ↔ (charge h [] h.horizon <ℤ pos h.handover)
 
 -- so is the answer to the activity a beside a schedule
 pub record AnswerDetermined (h : Header) (before : Schedule) (a : Activity) : Type 0 where
@@ -57,6 +71,8 @@ pub record FileDetermined (s : List ℕ) : Type 0 where
 pub record Determined : Type 0 where
   pub order : (xs : List Activity) → OrderDetermined xs
   pub runs : (pass : ℕ → Bool) (n : ℕ) → RunsDetermined pass n
+  pub projection : (c : ℕ → ℤ) (n : ℕ) → ProjectionDetermined c n
+  pub judged : (h : Header) → ProjectionJudged h
   pub answer : (h : Header) (before : Schedule) (a : Activity) → AnswerDetermined h before a
   -- two series of answers to a plan, right at every place, are the same
   pub answers : (p : Plan) (answers others : ℕ → Outcome) → RightAnswers p answers → RightAnswers p others → SameAnswers p answers others

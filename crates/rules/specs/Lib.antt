@@ -32,6 +32,7 @@ pub mod Calls
 -- What the theorems say, without the algorithms.
 pub mod OrderRight
 pub mod RunsRight
+pub mod ProjectionRight
 pub mod Demand
 pub mod Print
 pub mod WellFormed

@@ -10,7 +10,7 @@ use Rattle.rules.specs.Fields.{Read, value, fault}
 use Rattle.rules.specs.HeaderLine.{header_of}
 use Rattle.rules.specs.ActivityLine.{activity_of}
 use Rattle.rules.specs.Order.{order}
-use Rattle.rules.specs.MeetsB.{charge}
+use Rattle.rules.specs.MeetsB.{projection}
 use Rattle.rules.specs.Refusals.{Refusal}
 
 -- what is read: a plan, or one refusal
@@ -64,7 +64,7 @@ line_number id n (a ∷ rest) = cond (eqb a.id id) n (line_number id (suc n) res
 
 -- 9: c(T) with nothing placed is under the handover charge
 unfoldable pub out_of_reach : Header → Bool
-out_of_reach h = lt_z (charge h [] h.horizon) (pos h.handover)
+out_of_reach h = lt_z (projection h []).last (pos h.handover)
 
 -- 7, with the line of the misplaced activity; then 9
 unfoldable pub judged : Plan → Option Activity → Reading

@@ -1,16 +1,17 @@
 -- The report's bytes, and the program's output (01, Calls: "Report lines, by place").
 use Rattle.std.specs.Prelude.{ℕ, zero, suc, ◌-◌, List, [], ◌∷◌, ◌++◌, nat_abs, length}
 use Rattle.rules.specs.Bytes.{bytes}
-use Rattle.rules.specs.Plan.{Header, Activity, Plan, Schedule, end, at}
+use Rattle.rules.specs.Plan.{Activity, Plan, Schedule, end, at}
 use Rattle.rules.specs.Number.{decimal}
 use Rattle.rules.specs.Lines.{line_of}
 use Rattle.rules.specs.Conditions.{letters_of}
-use Rattle.rules.specs.MeetsB.{charge}
+use Rattle.rules.specs.MeetsB.{projection}
 use Rattle.rules.specs.MeetsV.{total_volume}
 use Rattle.rules.specs.Outcomes.{activity_at, outcome, finished}
 use Rattle.rules.specs.Reading.{Reading, accepted, refused, reading}
 use Rattle.rules.specs.declared.Outcome.{Outcome}
 use Rattle.rules.specs.declared.Outcome.TheVariants.{Placed, Refused}
+use Rattle.rules.specs.declared.Projection.{Projection}
 use Rattle.rules.specs.Refusals.{Refusal}
 
 -- "`id⇥placed⇥start⇥end` or `id⇥refused⇥letters`"
@@ -23,19 +24,21 @@ unfoldable pub outcome_lines : Plan → ℕ → List ℕ
 outcome_lines p zero = []
 outcome_lines p (suc k) = outcome_lines p k ++ outcome_line (activity_at p k) (outcome p k)
 
--- "`end⇥placed⇥refused⇥charge at T⇥total volume placed`" of a finished schedule, with the number of activities; that charge is at least the floor, so it has no sign
-unfoldable pub end_line : Header → ℕ → Schedule → List ℕ
-end_line h count placed =
+-- "`end⇥placed⇥refused⇥charge at T⇥total volume placed`", and "the lowest c and the first tick that has it" as "two more fields" (02, [1]), of the number of activities, a finished schedule and its charge projection; its charges are at least the floor, so they have no sign
+unfoldable pub end_line : ℕ → Schedule → Projection → List ℕ
+end_line count placed p =
     line_of (
     bytes "end"
     ∷ decimal (length placed)
     ∷ decimal (count - length placed)
-    ∷ decimal (nat_abs (charge h placed h.horizon))
+    ∷ decimal (nat_abs p.last)
     ∷ decimal (total_volume placed)
+    ∷ decimal (nat_abs p.lowest)
+    ∷ decimal p.tick
     ∷ [])
 
 unfoldable pub report : Plan → List ℕ
-report p = let n = length p.activities in outcome_lines p n ++ end_line p.header n (finished p)
+report p = let n = length p.activities in outcome_lines p n ++ end_line n (finished p) (projection p.header (finished p))
 
 -- "`no⇥number⇥line`"
 unfoldable pub no_line : Refusal → List ℕ

@@ -92,6 +92,15 @@ impl Display for Refusal {
     }
 }
 
+// What the charge projection hands back: the charge at the horizon, the lowest charge, and the first tick that has it
+// (document 02, [1]).
+#[derive(Clone, Copy)]
+pub struct Projection {
+    pub last: i64,
+    pub lowest: i64,
+    pub tick: usize,
+}
+
 // A run of starts: its first and its last. It is laid out as in C, for `station`.
 #[repr(C)]
 #[derive(Clone, Copy)]

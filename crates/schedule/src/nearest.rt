@@ -21,8 +21,10 @@ fn nearer_of(set: u16, s: u32, preferred: u32, best: Option<u32>) -> Option<u32>
     }
 }
 
-// Of the starts of a table, the valid one nearest to the preferred tick.
+// Of the starts of a table, the valid one nearest to the preferred tick. Not inlined: by itself, its loop keeps its numbers in
+// registers.
 #[tactic(auto, unfolding(rules::specs::Answer::nearest, crate::specs::Found::is_valid))]
+#[inline(never)]
 pub fn nearest_of(table: &Table, preferred: u32) -> Option<u32>
     ensures { option_of result ≡ nearest (is_valid table.now.sets.now) (to_preferred preferred) (length table.now.sets.now) }
 {

@@ -1,42 +1,35 @@
 -- How large the answers are: a refusal's number and line, a start, a set of conditions, the runs, the report.
-use Prim.Native.Nat.{ℕ, zero, suc, ◌-◌, ◌*◌, ◌<◌, ◌≤◌}
+use Prim.Native.Nat.{ℕ, zero, suc, ◌*◌, ◌<◌, ◌≤◌}
 use mathlib.Core.Path.{◌≡◌, refl}
 use mathlib.Core.Logic.{◌≢◌}
-use mathlib.Core.Bool.{Bool, true, false, cond}
-use mathlib.Core.List.{List, [], ◌∷◌}
+use mathlib.Core.List.{List}
 use native.Mathlib.Omega.{arith}
 use lib.Dec.{leb, ltb}
-use lib.IntN.{ℤ, pos, negsuc, nat_abs}
-use lib.Signed.{◌≤ℤ◌}
 use lib.ListN.{length, length-append}
 use borrow.Author.Tests.{leb-false}
-use Rattle.rules.specs.Plan.{Header, Activity, Plan, Schedule, end, at}
-use Rattle.rules.specs.Lines.{behind, parted, line_of}
-use Rattle.rules.specs.Conditions.{all_conditions, has, condition_letters, letters_from, letters_of}
-use Rattle.rules.specs.MeetsB.{charge}
-use Rattle.rules.specs.MeetsV.{total_volume}
+use Rattle.rules.specs.Plan.{Activity, Plan, Schedule}
+use Rattle.rules.specs.Conditions.{all_conditions}
+use Rattle.rules.specs.MeetsB.{projection}
 use Rattle.rules.specs.Order.{order}
 use Rattle.rules.specs.Outcomes.{no_activity, added, activity_at}
 use Rattle.rules.specs.Reading.{Reading, accepted, refused, reading}
-use Rattle.rules.specs.WellFormed.{HeaderFormed, ActivityFormed, WellFormed}
+use Rattle.rules.specs.WellFormed.{ActivityFormed, WellFormed}
 use Rattle.rules.specs.Faults.{FileFault, empty, plan_line, plan_field, activity, no_earlier, not_reachable, Fault, too_long, in_file}
-use Rattle.rules.specs.Report.{outcome_line, end_line}
+use Rattle.rules.specs.Report.{end_line}
 use Rattle.rules.specs.Calls.{Filled, refusing, filling, report_of, report_call, runs, starts_of, starts_call}
-use Rattle.rules.specs.Demand.{Right, placed_by, lines_by, report_by, RightAnswers, Demand3}
+use Rattle.rules.specs.Demand.{placed_by, finished_by, lines_by, report_by, RightAnswers, Demand3}
 use Rattle.rules.specs.declared.Outcome.{Outcome}
 use Rattle.rules.specs.declared.Outcome.TheVariants.{Placed, Refused}
 use Rattle.rules.specs.Refusals.{Refusal}
 use Rattle.rules.proofs.Accepted.{refused_fault, accepted_formed}
 use Rattle.rules.proofs.Demand.{demand3}
-use Rattle.rules.proofs.Decimal.{decimal_length}
-use Rattle.rules.proofs.Level.{charge_most}
 use Rattle.rules.proofs.ListAt.{at_mem}
 use Rattle.rules.proofs.Order.{order_length}
 use Rattle.rules.proofs.PlaceFacts.{order_mem}
 use Rattle.rules.proofs.Refusing.{reading_number}
+use Rattle.rules.proofs.ReportSize.{outcome_length, end_length}
 use Rattle.rules.proofs.SameRuns.{call_few}
 use Rattle.rules.proofs.Says.{either_way}
-use Rattle.rules.proofs.Signed.{signed}
 use Rattle.station.specs.Unpacking.{report_most, runs_most}
 
 -- ---- a refusal of the bytes: its line is at most that of the 65th activity
@@ -64,23 +57,6 @@ runs_few : (s : List ℕ) (p : Plan) → reading s ≡ accepted p → (k m : ℕ
 runs_few s p e k m h = let F = (accepted_formed s p e).0 in call_few p k m F.header.horizon.1 (place_formed p F k h).duration.0
 
 -- ---- the report
-letters_few : (c : ℕ) (xs : List ℕ) (m : ℕ) → length (letters_from c xs m) ≤ length xs
-unfolding letters_from
-letters_few c [] m = omega arith
-letters_few c (x ∷ xs) m = go (has m c) (letters_few (suc c) xs m)
-  where
-    go : (b : Bool) → length (letters_from (suc c) xs m) ≤ length xs → length (cond b (x ∷ letters_from (suc c) xs m) (letters_from (suc c) xs m)) ≤ length (x ∷ xs)
-    go true ih = omega arith
-    go false ih = omega arith
-
--- `65535⇥refused⇥WDUSEPBVH` and the LF
-outcome_length : (h : Header) (ps : Schedule) (a : Activity) → HeaderFormed h → ActivityFormed h a → (o : Outcome) → Right h ps a o → length (outcome_line a o) ≤ 24
-unfolding outcome_line line_of parted behind letters_of condition_letters
-outcome_length h ps a H F (Placed s) R =
-    let inside = (R.placed s refl).valid.start in
-    simp length-append (omega (arith, decimal_length 4 a.id (omega (arith, F.id)), decimal_length 3 s (omega (arith, inside, H.horizon)), decimal_length 3 (end (at a s)) (omega (arith, inside, H.horizon))))
-outcome_length h ps a H F (Refused m) R = simp length-append (omega (arith, decimal_length 4 a.id (omega (arith, F.id)), letters_few 0 condition_letters m))
-
 added_few : (a : Activity) (ps : Schedule) (o : Outcome) → length (added o a ps) ≤ suc (length ps)
 unfolding added
 added_few a ps (Placed s) = omega arith
@@ -90,35 +66,21 @@ placed_few : (p : Plan) (answers : ℕ → Outcome) (k : ℕ) → length (placed
 placed_few p answers zero = omega arith
 placed_few p answers (suc k) = omega (arith, added_few (activity_at p k) (placed_by p answers k) (answers k), placed_few p answers k)
 
-abs_most : (z : ℤ) (c : ℕ) → pos 0 ≤ℤ z → z ≤ℤ pos c → nat_abs z ≤ c
-abs_most (pos n) c l h = omega signed
-abs_most (negsuc n) c l h = absurd (omega signed)
-
 module _ (p : Plan) (F : WellFormed p) (answers : ℕ → Outcome) (R : RightAnswers p answers) where
   lines_length : (k : ℕ) → k ≤ length p.activities → length (lines_by p answers k) ≤ k * 24
   lines_length zero h = omega arith
   lines_length (suc k) h =
       simp length-append (omega (arith, lines_length k (omega arith), outcome_length p.header _ (activity_at p k) F.header (place_formed p F k h) (answers k) (R.right k h)))
 
-  -- `end⇥64⇥64⇥1000000000⇥1000000000` and the LF
-  end_length : length (end_line p.header (length p.activities) (placed_by p answers (length p.activities))) ≤ 32
-  unfolding end_line line_of parted behind
-  end_length =
+  report_end : length (end_line (length p.activities) (finished_by p answers) (projection p.header (finished_by p answers))) ≤ 48
+  report_end =
       let n = length p.activities in
       let ps = placed_by p answers n in
-      let last = charge p.header ps p.header.horizon in
       let few = placed_few p answers n in
-      let c = abs_most last p.header.capacity (omega (signed, R.whole.floor p.header.horizon (omega arith))) (charge_most p.header ps F.header.first.1 p.header.horizon) in
-      simp length-append (omega (
-        arith,
-        decimal_length 1 (length ps) (omega (arith, few, F.few)),
-        decimal_length 1 (n - length ps) (omega (arith, F.few)),
-        decimal_length 9 (nat_abs last) (omega (arith, c, F.header.capacity)),
-        decimal_length 9 (total_volume ps) (omega (arith, R.whole.volume, F.header.volume)),
-      ))
+      end_length p.header F.header ps R.whole.charge R.whole.volume n (omega (arith, F.few)) (omega (arith, few, F.few))
 
   report_length : length (report_by p answers) ≤ report_most
-  report_length = let n = length p.activities in simp length-append (omega (arith, lines_length n (omega arith), end_length, F.few))
+  report_length = let n = length p.activities in simp length-append (omega (arith, lines_length n (omega arith), report_end, F.few))
 
 -- ---- a call into a slice of `room` elements refuses, or fills it with `most` elements at most
 pub data AnswersAs {A : Type 0} (most : ℕ) (call : ℕ → Filled A) : Type 0 where

@@ -7,7 +7,7 @@ use Rattle.station.specs.Exported.{OutcomeExported, ReportExported, StartsExport
 
 -- room enough for every report, in bytes, and for every list of runs: PLANNER_REPORT_MOST, PLANNER_RUNS_MOST
 abbrev pub report_most : ℕ
-report_most = 1568
+report_most = 1584
 
 abbrev pub runs_most : ℕ
 runs_most = 2048

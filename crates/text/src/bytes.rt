@@ -47,11 +47,10 @@ impl<const N: usize> Bytes<N> {
         self.written.extend(word);
     }
 
-    // Writes the digits of a number, at most 20.
+    // Writes the digits of a number.
     pub fn push_number(&mut self, x: u64)
-        requires { length self.old + 20 ≤ N }
-        ensures text { self.new ≡ self.old ++ decimal x }
-        ensures within { length self.new ≤ length self.old + 20 }
+        requires { length self.old + length (decimal x) ≤ N }
+        ensures { self.new ≡ self.old ++ decimal x }
     {
         let mut digits = [0; 20];
         let count = put_number(&mut digits, 0, x);

@@ -16,7 +16,8 @@ use Rattle.rules.proofs.Tests.{last_or}
 use Rattle.rules.proofs.Signed.{signed}
 use Rattle.activity.specs.declared.Header.{Header as HeaderStruct}
 use Rattle.charge.specs.Charge.{charge_next}
-use Rattle.charge.proofs.Step.{le_true, next_most}
+use Rattle.rules.proofs.Signed.{le_z_true}
+use Rattle.charge.proofs.Step.{next_most}
 use Rattle.trial.specs.Trial.{Ran}
 
 module _ (h : HeaderStruct) (draw : ℕ → ℕ) (from : ℕ) (old : List ℤ) where
@@ -87,7 +88,7 @@ module _ (h : HeaderStruct) (draw : ℕ → ℕ) (from : ℕ) (old : List ℤ) w
     module _ (k : le_z (pos h.floor) c ≡ true) where
       -- the charge is between 0 and the capacity
       pub tick_range : (pos 0 ≤ℤ c) × (c ≤ℤ pos h.capacity)
-      tick_range = let l = le_true (pos h.floor) c k in (omega (signed, l), a.most)
+      tick_range = let l = le_z_true {a = pos h.floor} k in (omega (signed, l), a.most)
 
       pub tick_more : (z : ℤ) → t + 1 < length old → z ≡ charge_next h.capacity h.rate (draw t) c → AtTick h draw from (t + 1) z old (set new (t + 1) z)
       tick_more z l e =

@@ -1,51 +1,34 @@
 -- An activity that draws no more than the placed can spare, whenever it draws, leaves the charge within the limits.
 -- Assumes nothing.
 use Prim.Native.Nat.{ℕ, zero, suc, ◌+◌, ◌*◌, ◌-◌, ◌≤◌, ◌<◌}
-use mathlib.Core.Path.{◌≡◌, refl, ◌∙◌, subst}
+use mathlib.Core.Path.{◌≡◌, ◌∙◌}
 use mathlib.Core.Bool.{true, cond}
-use mathlib.Core.List.{List}
-use native.Mathlib.Nat.{suc-mul, mul-le-mul_right, le_refl}
+use native.Mathlib.Nat.{suc-mul, mul-le-mul_right}
 use native.Mathlib.Decide.{dec_lt, dec_le}
-use native.Mathlib.Numerals.{add-one}
 use native.Mathlib.Omega.{arith}
 use lib.Dec.{leb, ltb}
 use lib.IntN.{ℤ, pos, ◌+ℤ◌, ◌-ℤ◌}
-use lib.ListN.{get_or}
 use lib.Signed.{le_z, ◌≤ℤ◌}
 use borrow.Author.Tests.{le-leb, lt-leb, le-ltb, lt-ltb}
-use Rattle.rules.specs.MeetsB.{smaller}
-use Rattle.rules.proofs.Tests.{last_or}
+use Rattle.rules.specs.MeetsB.{smaller, projected, within_limits}
+use Rattle.rules.specs.declared.Projection.{Projection}
+use Rattle.rules.proofs.Projecting.{projected_right, limits_say}
 use Rattle.rules.proofs.Level.{smaller_most}
-use Rattle.rules.proofs.Signed.{signed, cond_by, add_parts, less_parts}
+use Rattle.rules.proofs.Signed.{signed, cond_by, add_parts, less_parts, le_le_z}
+use Rattle.activity.specs.View.{header_view}
 use Rattle.activity.specs.declared.Header.{Header as HeaderStruct}
 use Rattle.charge.specs.Charge.{OwnDraw, draw_of, charge_next, charge_by, kept_by}
-use Rattle.charge.proofs.Step.{le_le_z}
-use Rattle.charge.proofs.Running.{charge_most}
-use Rattle.charge.proofs.Kept.{kept_charge, kept_last}
-use Rattle.trial.specs.Trial.{energy_of, draw_with, Charges, InRange, lowest_of, spare_of}
+use Rattle.charge.proofs.Kept.{kept_last}
+use Rattle.trial.specs.Trial.{energy_of, draw_with, spare_of}
 
 smaller_by : (P : ℤ → Type 0) (a b : ℤ) → P a → P b → P (smaller a b)
 unfolding smaller
 smaller_by P a b p q = cond_by P (le_z a b) a b (λ _. p) (λ _. q)
 
--- ---- the lowest of an array's charges
-module _ (xs : List ℤ) where
-  pub lowest_first : get_or xs 0 (pos 0) ≡ lowest_of xs 0
-  unfolding lowest_of
-  lowest_first = refl
-
-  pub lowest_next : (t : ℕ) → smaller (lowest_of xs t) (get_or xs (t + 1) (pos 0)) ≡ lowest_of xs (t + 1)
-  unfolding lowest_of
-  lowest_next t = rw add-one refl
-
-  pub lowest_by : (P : ℤ → Type 0) (n : ℕ) → ((t : ℕ) → t ≤ n → P (get_or xs t (pos 0))) → P (lowest_of xs n)
-  unfolding lowest_of
-  lowest_by P zero f = f 0 (le_refl _)
-  lowest_by P (suc n) f = smaller_by P _ _ (lowest_by P n (λ t l. f t (omega arith))) (f (suc n) (le_refl _))
-
--- ---- charges of draws that keep the limits are in range
-pub charges_range : (h : HeaderStruct) (draw : ℕ → ℕ) (xs : List ℤ) → h.first ≤ h.capacity → kept_by h draw ≡ true → Charges h draw xs → InRange h xs
-charges_range h draw xs f k c t l = rw (c.at t l) (kept_charge h draw k t l, charge_most h draw t f)
+-- ---- what a projection within the limits says
+pub over_limits : (h : HeaderStruct) (p : Projection) → within_limits (header_view h) p ≡ true → (pos h.floor ≤ℤ p.lowest) × (pos h.handover ≤ℤ p.last)
+unfolding header_view
+over_limits h p e = limits_say (header_view h) p e
 
 -- ---- how many of the ticks before t lie in `from` to before `to`
 unfoldable passed : ℕ → ℕ → ℕ → ℕ
@@ -116,31 +99,19 @@ module _ (h : HeaderStruct) (draw : ℕ → ℕ) (o : OwnDraw) (early : o.heat �
   charge_under (suc t) = rw (drawn_next o early short t) (next_under h.capacity h.rate (draw t) (draw_of o t) (charge_by h draw t) (charge_by h (draw_with draw o) t) (drawn_to o early short t) (charge_under t))
 
   -- ---- the limits are kept where the charge without it is over them by what it draws in all
-  module _ (xs : List ℤ) (is : Charges h draw xs) (spared : pos (energy_of o) ≤ℤ spare_of h xs) where
-    lowest_most : (n t : ℕ) → t ≤ n → lowest_of xs n ≤ℤ get_or xs t (pos 0)
-    unfolding lowest_of
-    lowest_most zero t l = let z : t ≡ 0 = omega arith in rw z (omega signed)
-    lowest_most (suc n) t l = last_or (λ u. smaller (lowest_of xs n) (get_or xs (suc n) (pos 0)) ≤ℤ get_or xs u (pos 0)) (suc n) t (omega arith) (smaller_second _ _) (λ k. let a = lowest_most n t (omega arith) in let b = smaller_most (lowest_of xs n) (get_or xs (suc n) (pos 0)) in omega signed)
-
+  module _ (spared : pos (energy_of o) ≤ℤ spare_of h (projected (charge_by h draw) h.horizon)) where
     -- a limit that the charge at t is over by that much
-    over : (limit t : ℕ) → t ≤ h.horizon → spare_of h xs ≤ℤ (get_or xs t (pos 0) -ℤ pos limit) → le_z (pos limit) (charge_by h (draw_with draw o) t) ≡ true
-    over limit t l s =
+    over : (limit t : ℕ) → spare_of h (projected (charge_by h draw) h.horizon) ≤ℤ (charge_by h draw t -ℤ pos limit) → le_z (pos limit) (charge_by h (draw_with draw o) t) ≡ true
+    over limit t s =
         let c = charge_by h draw t in
         let d = charge_by h (draw_with draw o) t in
         let n = drawn_to o early short t in
-        let m : spare_of h xs ≤ℤ (c -ℤ pos limit) = subst (λ z. spare_of h xs ≤ℤ (z -ℤ pos limit)) (is.at t l) s in
         le_le_z (pos limit) d (omega (signed, charge_under t, drawn_most o early short t, add_parts d (pos n), less_parts c limit))
 
-    over_floor : (t : ℕ) → t ≤ h.horizon → le_z (pos h.floor) (charge_by h (draw_with draw o) t) ≡ true
-    unfolding spare_of
-    over_floor t l =
-        let z = lowest_of xs h.horizon in
-        let x = get_or xs t (pos 0) in
-        over h.floor t l (omega (signed, lowest_most h.horizon t l, smaller_most (z -ℤ pos h.floor) (get_or xs h.horizon (pos 0) -ℤ pos h.handover), less_parts z h.floor, less_parts x h.floor))
-
-    over_handover : le_z (pos h.handover) (charge_by h (draw_with draw o) h.horizon) ≡ true
-    unfolding spare_of
-    over_handover = over h.handover h.horizon (le_refl _) (smaller_second _ _)
-
     pub spare_kept : kept_by h (draw_with draw o) ≡ true
-    spare_kept = kept_last h (draw_with draw o) over_floor ∙ over_handover
+    unfolding spare_of
+    spare_kept =
+        let p = projected (charge_by h draw) h.horizon in
+        let r = projected_right (charge_by h draw) h.horizon in
+        kept_last h (draw_with draw o) (λ t l. let c = charge_by h draw t in over h.floor t (omega (signed, r.least t l, smaller_most (p.lowest -ℤ pos h.floor) (p.last -ℤ pos h.handover), less_parts p.lowest h.floor, less_parts c h.floor)))
+        ∙ over h.handover h.horizon (rw (← r.last) (smaller_second _ _))

@@ -1,30 +1,21 @@
 -- Whether charges keep to the floor and the handover charge, by a trial that is left where that is decided.
 -- Assumes nothing.
 use Prim.Native.Nat.{ℕ, ◌≤◌, ◌<◌}
-use mathlib.Core.Path.{◌≡◌, refl, sym, ap, ◌∙◌}
-use mathlib.Core.Logic.{⊎_elim}
+use mathlib.Core.Path.{◌≡◌, sym, ap, ◌∙◌}
 use mathlib.Core.Bool.{true, false}
 use mathlib.Core.List.{List}
-use native.Mathlib.Nat.{eq-or-lt_of_le, le_refl}
+use native.Mathlib.Nat.{le_refl}
 use native.Mathlib.Decide.{dec_lt}
 use native.Mathlib.Omega.{arith}
 use lib.IntN.{ℤ, pos}
 use lib.ListN.{get_or}
 use lib.Signed.{le_z}
-use Rattle.rules.proofs.Tests.{last_or, both_ways}
+use Rattle.rules.proofs.Tests.{last_or}
 use Rattle.activity.specs.declared.Header.{Header as HeaderStruct}
 use Rattle.charge.specs.Charge.{charge_by, kept_by}
 use Rattle.charge.proofs.Running.{charge_first, charge_next_lem, value_at}
 use Rattle.charge.proofs.Kept.{kept_at, handed_over, not_kept, kept_last}
 use Rattle.trial.specs.Trial.{Ran}
-
--- charges run on from the first by draws that keep the floor get to the horizon
-module _ (h : HeaderStruct) (draw : ℕ → ℕ) where
-  pub ran_whole : (r : ℕ) (old new : List ℤ) → kept_by h draw ≡ true → get_or old 0 (pos 0) ≡ pos h.first → r ≤ h.horizon → Ran h draw 0 r old new → (r < h.horizon → le_z (pos h.floor) (get_or new r (pos 0)) ≡ false) → (t : ℕ) → t ≤ h.horizon → get_or new t (pos 0) ≡ charge_by h draw t
-  ran_whole r old new k e l p left t m = ⊎_elim (λ z. at t (omega arith)) (λ z. absurd (both_ways (kept_at h draw k r l) (ap (le_z (pos h.floor)) (sym (at r (le_refl _))) ∙ left z))) (eq-or-lt_of_le l)
-    where
-      at : (t : ℕ) → t ≤ r → get_or new t (pos 0) ≡ charge_by h draw t
-      at t m = value_at h draw draw (λ u. get_or new u (pos 0)) 0 r p.next (p.past 0 (le_refl _) ∙ e ∙ charge_first h draw) (λ t _ _. refl) t (omega arith) m
 
 -- a trial that got to tick n: the charge there stands in the array, and those before are at least the floor
 pub record Tried (h : HeaderStruct) (all : ℕ → ℕ) (n : ℕ) (xs : List ℤ) : Type 0 where

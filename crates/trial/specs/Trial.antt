@@ -1,10 +1,11 @@
 -- Condition B as the code tests it: the draws with the candidate added, the charges of a trial, and what can be spared.
-use Rattle.std.specs.Prelude.{ℕ, zero, suc, ◌+◌, ◌*◌, ◌-◌, ◌<◌, ◌≤◌, ◌≡◌, Bool, true, List, ℤ, pos, ◌-ℤ◌, length, get_or, ◌≤ℤ◌}
+use Rattle.std.specs.Prelude.{ℕ, ◌+◌, ◌*◌, ◌-◌, ◌<◌, ◌≤◌, ◌≡◌, Bool, true, List, ℤ, pos, ◌-ℤ◌, length, get_or}
 use Rattle.std.specs.Int.Signed.{le_z}
 use Rattle.rules.specs.Warmup.{warmup_at}
 use Rattle.rules.specs.MeetsB.{smaller}
+use Rattle.rules.specs.declared.Projection.{Projection}
 use Rattle.activity.specs.declared.Header.{Header as HeaderStruct}
-use Rattle.charge.specs.Charge.{OwnDraw, draw_of, charge_next, charge_by, kept_by}
+use Rattle.charge.specs.Charge.{OwnDraw, draw_of, charge_next, kept_by}
 
 -- an activity of this duration, draw and warm at the start s
 abbrev pub own_draw : HeaderStruct → ℕ → ℕ → ℕ → ℕ → OwnDraw
@@ -25,11 +26,6 @@ draw_with draw o t = draw t + draw_of o t
 unfoldable pub kept_at : HeaderStruct → (ℕ → ℕ) → ℕ → ℕ → ℕ → ℕ → Bool
 kept_at h draw duration own warm s = kept_by h (draw_with draw (own_draw h s duration own warm))
 
--- an array of the charges at each tick to the horizon
-pub record Charges (h : HeaderStruct) (draw : ℕ → ℕ) (xs : List ℤ) : Type 0 where
-  pub size : length xs ≡ 4097
-  pub at : (t : ℕ) → t ≤ h.horizon → get_or xs t (pos 0) ≡ charge_by h draw t
-
 -- charges run on from tick `from` to tick `to`, each after the one before; all but the last are at least the floor, and those up to `from` remain
 pub record Ran (h : HeaderStruct) (draw : ℕ → ℕ) (from to : ℕ) (old new : List ℤ) : Type 0 where
   pub size : length new ≡ length old
@@ -38,15 +34,6 @@ pub record Ran (h : HeaderStruct) (draw : ℕ → ℕ) (from to : ℕ) (old new 
   pub next : (t : ℕ) → from ≤ t → t < to → get_or new (t + 1) (pos 0) ≡ charge_next h.capacity h.rate (draw t) (get_or new t (pos 0))
   pub kept : (t : ℕ) → from ≤ t → t < to → le_z (pos h.floor) (get_or new t (pos 0)) ≡ true
 
--- an array of charges that are between 0 and the capacity to the horizon
-abbrev pub InRange : HeaderStruct → List ℤ → Type 0
-InRange h xs = (t : ℕ) → t ≤ h.horizon → (pos 0 ≤ℤ get_or xs t (pos 0)) × (get_or xs t (pos 0) ≤ℤ pos h.capacity)
-
--- the lowest charge of ticks 0 to t
-unfoldable pub lowest_of : List ℤ → ℕ → ℤ
-lowest_of xs zero = get_or xs 0 (pos 0)
-lowest_of xs (suc t) = smaller (lowest_of xs t) (get_or xs (suc t) (pos 0))
-
--- the least by which the charges are over the floor, and over the handover charge at the horizon
-unfoldable pub spare_of : HeaderStruct → List ℤ → ℤ
-spare_of h xs = smaller (lowest_of xs h.horizon -ℤ pos h.floor) (get_or xs h.horizon (pos 0) -ℤ pos h.handover)
+-- the smaller of what the lowest charge is over the floor, and the last over the handover charge
+unfoldable pub spare_of : HeaderStruct → Projection → ℤ
+spare_of h p = smaller (p.lowest -ℤ pos h.floor) (p.last -ℤ pos h.handover)

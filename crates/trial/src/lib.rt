@@ -18,11 +18,12 @@ use activity::Header;
 use base::Base;
 use charge::draws::add_placed;
 use charge::own::OwnDraw;
+use charge::run::{CHARGES, project};
 use charge::sums::Drawn;
 use own::{energy, own_draw};
 use placed::Placed;
 use rules::TICKS;
-use run::{CHARGES, fill_charges, run_back, run_own};
+use run::{run_back, run_own};
 use sets::table::raise;
 use spare::spare_charge;
 
@@ -62,15 +63,16 @@ fn mark_kept(
     table: &mut [u16],
 )
     requires in_time { count + duration ≤ drawn.now.header.horizon + 1 }
+    requires kept { (drawn.now.header.first ≤ drawn.now.header.capacity) × (kept_by drawn.now.header (at_tick drawn.now.draws.now) ≡ true) }
     requires markable { Markable by count table.old }
     ensures { Marked (kept_at drawn.now.header (at_tick drawn.now.draws.now) duration draw warm) by count table.old table.new }
 {
     let mut charges = [0i64; CHARGES];
-    fill_charges(drawn, &mut charges);
+    let projection = project(drawn, &mut charges);
     let base = Base {
         drawn: *drawn,
         charges: &charges,
-        spare: spare_charge(drawn.header, &charges),
+        spare: spare_charge(drawn.header, projection),
     };
     // Not by `mark_where`, whose test is an Fn, while a trial writes its charges: with an FnMut its contract would have to go
     // by the state that each call leaves, which no other test has.

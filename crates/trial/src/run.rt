@@ -2,7 +2,7 @@
 ghost use Rattle.std.specs.Prelude.{◌≡◌, ℕ, ℤ, true, false, ◌⊎◌, ◌<◌, ◌≤◌, pos, length, get_or, ◌≤ℤ◌};
 ghost use Rattle.std.specs.Int.Signed.{le_z};
 ghost use Rattle.charge.specs.Charge.{own_view, at_tick};
-ghost use Rattle.trial.specs.Trial.{draw_more, draw_with, Charges, Ran};
+ghost use Rattle.trial.specs.Trial.{draw_more, draw_with, Ran};
 
 use crate::base::Base;
 use activity::Header;
@@ -10,12 +10,9 @@ use charge::own::OwnDraw;
 use charge::run::step;
 use charge::sums::Drawn;
 
-// The most charges of a plan: at each tick, and at the horizon.
-pub const CHARGES: usize = 4097;
-
 // Runs the charge on from tick `from`, with `by` drawn beside the placed, to tick `to`, the first tick under the floor, or the first whose charge ends the run. Answers the tick reached.
-// Beside charge's `run_through`, which keeps no charges and stops nowhere. That the first charge is not over the capacity is
-// asked in each run here: the charges are lent, and each run begins at another tick.
+// Beside charge's `project`, which stops nowhere. That the first charge is not over the capacity is asked in each run: the
+// charges are lent, and each run begins at another tick.
 fn run_until<E: Fn(usize, i64) -> bool>(
     drawn: &Drawn,
     by: u32,
@@ -62,7 +59,9 @@ fn run_ticks(drawn: &Drawn, by: u32, from: usize, to: usize, charges: &mut [i64]
 }
 
 // Runs the charge on from tick `from`, with the placed alone, to the horizon, the first tick under the floor, or the first where the charge is the base's again.
-// A slice, of which it is only asked that it has the charge at the horizon.
+// A slice, of which it is only asked that it has the charge at the horizon. Not inlined: by itself, its loop keeps its numbers
+// in registers.
+#[inline(never)]
 pub fn run_back(base: &Base, from: usize, charges: &mut [i64]) -> usize
     requires from_le_horizon { (from ≤ base.now.drawn.header.horizon) × (base.now.drawn.header.horizon < length charges.old) }
     requires under_capacity { get_or charges.old from (pos 0) ≤ℤ pos base.now.drawn.header.capacity }
@@ -79,14 +78,6 @@ pub fn run_back(base: &Base, from: usize, charges: &mut [i64]) -> usize
         charges,
         |t, c| c == base_charges[t],
     )
-}
-
-// Fills in the base, the charge at each tick with the placed alone.
-pub fn fill_charges(drawn: &Drawn, charges: &mut [i64; CHARGES])
-    ensures { Charges drawn.now.header (at_tick drawn.now.draws.now) charges.new }
-{
-    charges[0] = i64::from(drawn.header.first);
-    run_ticks(drawn, 0, 0, drawn.header.horizon as usize, charges);
 }
 
 // Runs the charge on through the ticks in which one activity draws, to its end or the first tick under the floor.

@@ -50,6 +50,7 @@ impl<const N: usize> Part<N> {
     }
 
     // Writes the digits of a number.
+    #[tactic(auto, using(text::proofs::Decimal::decimal_most))]
     pub fn push_number(&mut self, x: u64)
         ensures { self.new ≡ with_more N self.old (decimal x) }
     {

@@ -149,7 +149,7 @@ impl Tally {
         missing.extend(self.starts.lacks_slices("starts"));
         let wanted = [
             ("a placed activity", self.placed > 0),
-            ("a report of 1,503 bytes", self.report.most >= 1_503),
+            ("a report of 1,518 bytes", self.report.most >= 1_518),
             ("a list of 98 runs", self.starts.most >= 98),
         ];
         missing.extend(wanted.iter().filter(|(_, seen)| !seen).map(|(what, _)| what.to_string()));

@@ -1,7 +1,8 @@
 -- `mark_charge` meets its contract: the draws of the placed are those of the rows, so each trial is the rows' too.
-use Rattle.std.proofs.Common.{refl, arith}
+use Rattle.std.proofs.Common.{refl, ap, ◌∙◌, arith}
 use Rattle.rules.proofs.Lists.{zeros}
 use Rattle.activity.specs.View.{header_view}
+use Rattle.charge.specs.Charge.{kept_by}
 use Rattle.charge.proofs.Drawn.{drawing, amounts_fewer}
 use Rattle.trial.proofs.mark_charge.Goals as goal
 
@@ -14,5 +15,9 @@ pub add_placed-requires-clause-draws_len : goal.add_placed-requires-clause-draws
 add_placed-requires-clause-draws_len c = (refl, zeros 4096)
 
 pub invariant_of-drawn : goal.invariant_of-drawn
-invariant_of-drawn c =
-    record { kept = drawing _ _ _ c.add_placed.ensures c.add_placed.auto.draws c.requires.header_formed.0 c.requires.header_formed.1 }
+invariant_of-drawn c = record { drawing = drawing _ _ c.add_placed.auto.draws c.requires.header_formed.0 }
+
+pub mark_kept-requires-clause-kept : goal.mark_kept-requires-clause-kept
+unfolding header_view
+mark_kept-requires-clause-kept c =
+    (c.requires.header_formed.0.first.1, ap (kept_by c.args.header) (λ i t. c.add_placed.ensures t i) ∙ c.requires.header_formed.1)

@@ -1,14 +1,13 @@
 -- `mark_kept` meets its contract: the starts below s are marked.
 use Rattle.std.proofs.Common.{◌∙◌, arith}
 use Rattle.sets.proofs.Marking.{marked_more}
-use Rattle.trial.proofs.Spared.{charges_range}
+use Rattle.charge.specs.Charge.{kept_by}
 use Rattle.trial.proofs.Added.{own_kept}
 use Rattle.trial.proofs.mark_kept.Goals as goal
 
 pub spare_charge-requires : goal.spare_charge-requires
-spare_charge-requires c =
-    let kept = c.args.drawn.now.kept in
-    (omega (arith, c.fill_charges.ensures.size, kept.short), charges_range _ _ _ kept.first kept.kept c.fill_charges.ensures)
+unfolding kept_by
+spare_charge-requires c = rw c.project-projection.ensures.value c.requires.kept.1
 
 pub loop-s-preserved : goal.loop-s-preserved
 loop-s-preserved c =

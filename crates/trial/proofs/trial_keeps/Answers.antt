@@ -38,14 +38,14 @@ module _ (b : Base) (own : OwnStruct) (trial : List ℤ) (size : length trial �
 
   begun : Tried h all own.heat (set trial own.heat v)
   begun =
-      let d = b.drawn.kept in
+      let d = b.drawn.drawing in
       let e = own.heat_le_start in
       let f = own.start_le_end in
-      tried_first h base all d.kept own.heat (omega arith) (λ t l. draws_before base o t e l) _
+      tried_first h base all b.kept own.heat (omega arith) (λ t l. draws_before base o t e l) _
       (get_or-set_same trial own.heat v (pos 0) (omega (arith, d.short)) ∙ first ∙ b.charges_are.at own.heat (omega arith))
 
   begun_most : get_or (set trial own.heat v) own.heat (pos 0) ≤ℤ pos h.capacity
-  begun_most = rw begun.at (charge_most h all own.heat b.drawn.kept.first)
+  begun_most = rw begun.at (charge_most h all own.heat b.first)
 
   -- where it left the activity's ticks
   module _ (t : ℕ) (xs : List ℤ) (r : Ran h all own.heat t (set trial own.heat v) xs) where
@@ -53,30 +53,30 @@ module _ (b : Base) (own : OwnStruct) (trial : List ℤ) (size : length trial �
     owned =
         let e = own.heat_le_start in
         let f = own.start_le_end in
-        tried_on h base all b.drawn.kept.kept own.heat (omega arith) (set trial own.heat v) begun all t xs r (λ u _ _. refl)
+        tried_on h base all b.kept own.heat (omega arith) (set trial own.heat v) begun all t xs r (λ u _ _. refl)
 
     owned_size : length xs ≡ 4097
     owned_size = r.size ∙ begun_size
 
     owned_most : get_or xs t (pos 0) ≤ℤ pos h.capacity
-    owned_most = rw owned.at (charge_most h all t b.drawn.kept.first)
+    owned_most = rw owned.at (charge_most h all t b.first)
 
     owned_under : t ≤ h.horizon → le_z (pos h.floor) (get_or xs t (pos 0)) ≡ false → kept_by h all ≡ false
-    owned_under l f = tried_under h base all b.drawn.kept.kept t l xs owned f
+    owned_under l f = tried_under h base all b.kept t l xs owned f
 
     -- where it ended
     module _ (z : t ≡ own.end) (u : ℕ) (ys : List ℤ) (q : Ran h base own.end u xs ys) (l : u ≤ h.horizon) where
       tried : Tried h all u ys
-      tried = tried_on h base all b.drawn.kept.kept own.end in_time xs (subst (λ (v : ℕ). Tried h all v xs) z owned) base u ys q (λ v k _. draws_after base o v own.start_le_end k)
+      tried = tried_on h base all b.kept own.end in_time xs (subst (λ (v : ℕ). Tried h all v xs) z owned) base u ys q (λ v k _. draws_after base o v own.start_le_end k)
 
       back_same : get_or ys u (pos 0) ≡ get_or b.charges.now u (pos 0) → kept_by h all ≡ true
-      back_same f = tried_back h base all b.drawn.kept.kept u l ys tried (f ∙ b.charges_are.at u l) (λ v k. draws_after base o v own.start_le_end (omega (arith, q.began)))
+      back_same f = tried_back h base all b.kept u l ys tried (f ∙ b.charges_are.at u l) (λ v k. draws_after base o v own.start_le_end (omega (arith, q.began)))
 
       back_under : le_z (pos h.floor) (get_or ys u (pos 0)) ≡ false → kept_by h all ≡ false
-      back_under f = tried_under h base all b.drawn.kept.kept u l ys tried f
+      back_under f = tried_under h base all b.kept u l ys tried f
 
       back_last : u ≡ h.horizon → le_z (pos h.floor) (get_or ys u (pos 0)) ≡ true → kept_by h all ≡ le_z (pos h.handover) (get_or ys u (pos 0))
-      back_last f k = tried_last h base all b.drawn.kept.kept u l ys tried f k
+      back_last f k = tried_last h base all b.kept u l ys tried f k
 
 pub run_own-ended-requires-clause-under_capacity : goal.run_own-ended-requires-clause-under_capacity
 run_own-ended-requires-clause-under_capacity c =

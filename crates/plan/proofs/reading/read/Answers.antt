@@ -36,3 +36,8 @@ judge-requires-clause-read c =
     let m : Mapped 1 c.read_first.result c.map_err.result = search rules in
     let e = mapped_ok 1 _ _ h m c.in_ok-header.was in
     c.read_first.ensures.value ∙ rw e (first_lines s c.find-end.result h _ c.in_ok-lines.ensures.value) ∙ ap (λ q. in_order (after_lines q)) (lines_read (header_view h) s lines)
+
+pub judge-requires-clause-formed : goal.judge-requires-clause-formed
+judge-requires-clause-formed c =
+    let m : Mapped 1 c.read_first.result c.map_err.result = search rules in
+    rw (mapped_ok 1 _ _ c.in_ok-header.header m c.in_ok-header.was) at c.read_first.ensures.formed

@@ -1,7 +1,7 @@
 -- `reading::read_first` meets its contract: check by check, the definition goes the same way.
 use Rattle.std.proofs.Common.{arith, ◌∙◌, sym}
 use Rattle.plan.specs.Reached.{first_from}
-use Rattle.plan.proofs.Judging.{first_ends, first_2, first_read}
+use Rattle.plan.proofs.Judging.{first_ends, first_2, first_read, first_formed}
 use Rattle.plan.proofs.reading.read_first.Goals as goal
 use Rattle.plan.proofs.reading.read_first.Goals.{then-end-s-via-then-end-s, then-end-s-via-else-end-s+then-not-formed}
 
@@ -16,3 +16,6 @@ returns-then-end-s-clause-value c =
 
 pub returns-clause-value : goal.returns-clause-value
 returns-clause-value c = first_read c.args.s.now c.requires.2 c.args.end c.requires.0 (omega arith) (sym c.formed.ensures ∙ c.if-not-formed.false) c.read_header.result c.read_header.ensures
+
+pub returns-clause-formed : goal.returns-clause-formed
+returns-clause-formed c = first_formed _ (sym c.formed.ensures ∙ c.if-not-formed.false) c.read_header.result c.read_header.ensures

@@ -4,7 +4,7 @@ use Rattle.std.specs.Int.Signed.{le_z}
 use mir.Facts.{to_z-of_z}
 use Rattle.rules.proofs.Signed.{signed, lt_z_false}
 use Rattle.charge.specs.Charge.{charge_next}
-use Rattle.charge.proofs.Step.{le_le_z}
+use Rattle.rules.proofs.Signed.{le_le_z}
 use Rattle.trial.specs.Trial.{draw_more}
 use Rattle.trial.proofs.Running.{tick_range, tick_more}
 use Rattle.trial.proofs.run.run_until.Given.{Over}

@@ -1,6 +1,5 @@
--- The digits stand behind what was there, and are at most 20.
+-- The digits stand behind what was there.
 use Rattle.std.proofs.Common.{arith, ◌≡◌, ◌++◌, ◌∙◌, ap, length, take, replicate}
-use Rattle.std.proofs.lemmas.List.{length-append}
 use Rattle.rules.specs.Number.{decimal}
 use Rattle.text.proofs.Decimal.{decimal_most}
 use Rattle.text.proofs.Put.{put_end}
@@ -22,11 +21,10 @@ slice_bounds-push-end g c =
     let all = ap length (digits g (goal.at.slice_bounds-push-end g c).After-put_number-count) in
     omega (arith, all, c.put_number-count.ensures.value)
 
-pub returns-clause-text : goal.returns-clause-text
-returns-clause-text g c = c.push.ensures ∙ ap (λ w. c.args.self.now ++ w) (digits g (goal.at.returns-clause-text g c).After-put_number-count)
+pub push-requires : goal.push-requires
+push-requires g c =
+    let all = ap length (digits g (goal.at.push-requires g c).After-put_number-count) in
+    omega (arith, all, c.requires, c.put_number-count.ensures.value)
 
-pub returns-clause-within : goal.returns-clause-within
-returns-clause-within g c =
-    let all = ap length (digits g (goal.at.returns-clause-within g c).After-put_number-count) in
-    let more = ap length c.push.ensures ∙ length-append c.args.self.now _ in
-    omega (arith, all, more, decimal_most c.args.x c.ranges.x.fits)
+pub returns : goal.returns
+returns g c = c.push.ensures ∙ ap (λ w. c.args.self.now ++ w) (digits g (goal.at.returns g c).After-put_number-count)
