@@ -1,10 +1,15 @@
-/* The calls of the seabed station planner (document 01), for C99 and C++11. Link with libstation.a.
+/* The calls of the seabed station planner (document 01, with the requests of document 02 that have landed), for C99 and
+ * C++11. Link with libstation.a.
  *
  * A plan is the bytes of a plan file as they are, with no NUL behind them. A start is a tick, a minute counted from the
  * plan's beginning. An activity is named by its place: its position in the scheduling order, from 0. That order is by
  * priority, the lowest number first, and of equal priorities by line; so a place is neither an id nor a line number.
  * Line k of the report, counted from 0, is the line of place k, and begins with the activity's id: planner_place_of
  * looks an id up there.
+ *
+ * Since version 3 a window is a:p:b: its first start, its preferred tick and its last start. An activity with windows is
+ * placed as near as can be to the p of the window that holds its start; the preferred tick of its line counts only where
+ * it has none. A window a:b, as before, is malformed.
  *
  * Each call reads the plan, does its whole work and gives its answer as one number, which the functions below take
  * apart:
@@ -43,7 +48,7 @@ extern "C" {
 #define PLANNER_CAST(type, value) ((type)(value))
 #endif
 
-#define PLANNER_VERSION 2 /* the version of this header; planner_version() gives that of the library */
+#define PLANNER_VERSION 3 /* the version of this header; planner_version() gives that of the library */
 
 #define PLANNER_PLAN_MOST 60000    /* the most bytes of a plan; a longer one is refused */
 #define PLANNER_ACTIVITIES_MOST 64 /* the most activities of a plan */
@@ -57,8 +62,9 @@ struct planner_interval {
     uint32_t last;
 };
 
-/* Why a call is refused, by document 01's numbers; only the first in its order of checks is given. With 1 to 9 the plan
- * itself is refused, by every call alike; 10 to 12 are of the call. Lines count from 1; 1 and 9 to 12 have line 0. */
+/* Why a call is refused, by the numbers of the documents; only the first in their order of checks is given. With 1 to 9
+ * and 13 the plan itself is refused, by every call alike; 10 to 12 are of the call. Lines count from 1; 1 and 9 to 12
+ * have line 0. */
 enum planner_refusal_number {
     PLANNER_REFUSAL_NONE = 0,                /* no refusal */
     PLANNER_REFUSAL_PLAN_TOO_LONG = 1,       /* over 60,000 bytes */
@@ -72,7 +78,8 @@ enum planner_refusal_number {
     PLANNER_REFUSAL_HANDOVER_UNMET = 9,      /* charge at horizon T with nothing placed is under the handover charge */
     PLANNER_REFUSAL_SLICE_TOO_SHORT = 10,    /* lent slice too short for the answer */
     PLANNER_REFUSAL_NO_SUCH_PLACE = 11,      /* place not below the activity count */
-    PLANNER_REFUSAL_SET_TOO_LARGE = 12       /* set over 511 */
+    PLANNER_REFUSAL_SET_TOO_LARGE = 12,      /* set over 511 */
+    PLANNER_REFUSAL_OUT_OF_WINDOW = 13       /* preferred tick outside its window */
 };
 
 /* The nine conditions that a start of an activity must meet beside those placed at earlier places. A set of them is
@@ -100,7 +107,7 @@ uint32_t planner_version(void);
  *   plan, plan_length  the plan
  *   place              the place
  *
- * The answer: planner_refusal and planner_line (1 to 9, 11); where there is no refusal, planner_is_placed, and then
+ * The answer: planner_refusal and planner_line (1 to 9, 11, 13); where there is no refusal, planner_is_placed, and then
  * planner_start or planner_conditions. Nothing is written. */
 uint64_t planner_outcome(const uint8_t *plan, size_t plan_length, size_t place);
 
@@ -111,8 +118,9 @@ uint64_t planner_outcome(const uint8_t *plan, size_t plan_length, size_t place);
  *   plan, plan_length  the plan
  *   out, out_length    the slice lent, in bytes; PLANNER_REPORT_MOST are always enough
  *
- * The answer: planner_refusal and planner_line (1 to 10); where there is no refusal, planner_written, the length of the
- * report. Then that many bytes at the front of out are the report, and the others as before; on a refusal all are. */
+ * The answer: planner_refusal and planner_line (1 to 10, 13); where there is no refusal, planner_written, the length of
+ * the report. Then that many bytes at the front of out are the report, and the others as before; on a refusal all
+ * are. */
 uint64_t planner_report(const uint8_t *plan, size_t plan_length, uint8_t *out, size_t out_length);
 
 /* The starts of the activity at a place that meet every condition of a set, beside the activities placed at earlier
@@ -124,7 +132,7 @@ uint64_t planner_report(const uint8_t *plan, size_t plan_length, uint8_t *out, s
  *   set                the conditions, added: 0 to PLANNER_CONDITIONS_ALL; or planner_all_but of one
  *   out, out_count     the slice lent, in records; PLANNER_RUNS_MOST are always enough
  *
- * The answer: planner_refusal and planner_line (1 to 12); where there is no refusal, planner_written, the count of
+ * The answer: planner_refusal and planner_line (1 to 13); where there is no refusal, planner_written, the count of
  * runs, 0 where no start meets the set. Then that many records at the front of out are the runs, and the others as
  * before; on a refusal all are. */
 uint64_t planner_starts(const uint8_t *plan, size_t plan_length, size_t place, uint32_t set,
@@ -196,7 +204,7 @@ static inline uint32_t planner_all_but(uint32_t condition)
     return PLANNER_CONDITIONS_ALL & ~condition;
 }
 
-/* A refusal's number in words; "unknown refusal" for a number over 12. */
+/* A refusal's number in words; "unknown refusal" for a number over 13. */
 static inline const char *planner_refusal_text(uint32_t number)
 {
     switch (number) {
@@ -213,6 +221,7 @@ static inline const char *planner_refusal_text(uint32_t number)
     case PLANNER_REFUSAL_SLICE_TOO_SHORT: return "lent slice too short for the answer";
     case PLANNER_REFUSAL_NO_SUCH_PLACE: return "place not below the activity count";
     case PLANNER_REFUSAL_SET_TOO_LARGE: return "set over 511";
+    case PLANNER_REFUSAL_OUT_OF_WINDOW: return "preferred tick outside its window";
     default: return "unknown refusal";
     }
 }

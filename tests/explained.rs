@@ -20,6 +20,11 @@ const WORDS_2: &str = "the first word or the number of fields is wrong, or the l
 const WORDS_3: &str = "a number or an item of a list is not written as it must be, or the field is empty";
 const WORDS_4: &str = "a number is out of its range";
 const WORDS_8: &str = "the list does not rise, a window ends before it begins, or there are too many items";
+const WORDS_13: &str = "a preferred tick lies outside its window";
+
+const WINDOWS: &str =
+    "windows, - or up to 4 of the form a:p:b, 0 to 4095, each a at most its b and above the b before, \
+                       each p from its a to its b";
 
 const P_SHOWN: &str = r"plan\t20\t840\t100\t20\t40\t1\t0\t1\t10\t50\t1\n";
 const A_SHOWN: &str = r"act\t7\t1\t5\t10\t-\t-\t0\t-\t1=3\t1\t4\t3\t10\t1\n";
@@ -204,7 +209,7 @@ fn changed(before: &str, line: &str, field: usize, changed: &str) -> String {
 // What is said behind the line's bytes and the number of fields, with the number at the front.
 fn check_field(said: String, line: usize, fields: usize, number: u32, field: usize, changed: &str, words: &str) {
     let lines: Vec<&str> = said.lines().collect();
-    let numbers = [(3, WORDS_3), (4, WORDS_4), (8, WORDS_8)];
+    let numbers = [(3, WORDS_3), (4, WORDS_4), (8, WORDS_8), (13, WORDS_13)];
     let own = numbers.iter().find(|own| own.0 == number).unwrap().1;
     assert_eq!(lines[0], format!("refused {number} at line {line}: {own}"), "{said}");
     assert!(lines[1].starts_with(&format!("line {line}: ")) && lines[1].ends_with(r"\n"), "{said}");
@@ -245,11 +250,7 @@ fn fields_of_another_line() {
         (2, "priority, 0 to 65535", &["65536"]),
         (3, "duration, 1 to the horizon", &["0", "21"]),
         (4, "preferred tick, 0 to 4095", &["4096"]),
-        (
-            5,
-            "windows, - or up to 4 of the form a:b, 0 to 4095, each a at most its b and above the b before",
-            &["0:4096", "4096:4096", "9:8,4096:4097"],
-        ),
+        (5, WINDOWS, &["0:0:4096", "0:4096:0", "4096:4096:4096", "9:9:8,4096:4096:4097", "5:4:9,0:4096:0"]),
         (6, "after, - or up to 8 ids, 0 to 65535, rising", &["65536", "2,1,65536"]),
         (7, "units, - or up to 32 numbers, 0 to 31, rising", &["32", "1,1,32"]),
         (8, "needs, - or up to 4 of the form v=k, v 0 to 7 and rising, k 0 to 255", &["8=0", "0=256"]),
@@ -267,7 +268,7 @@ fn fields_of_another_line() {
             check_field(changed(P, A, field, beyond), 2, 15, 4, field, beyond, words);
         }
         let not_rising = match field {
-            5 => &["9:8", "0:1,1:2", "0:0,1:1,2:2,3:3,4:4"][..],
+            5 => &["9:9:8", "0:1:1,1:1:2", "0:0:0,1:1:1,2:2:2,3:3:3,4:4:4", "5:4:9,9:9:9"][..],
             6 => &["1,1", "2,1", "0,1,2,3,4,5,6,7,8"],
             7 => &["1,1", "2,1"],
             8 | 9 => &["1=0,1=0", "2=0,1=0", "0=0,1=0,2=0,3=0,4=0"],
@@ -279,20 +280,34 @@ fn fields_of_another_line() {
     }
 }
 
+// One to five numbers but three are malformed, and a preferred tick of any window may lie outside it.
+#[test]
+fn windows_of_three_numbers() {
+    for malformed in ["5", "0:8", "0:4:8:12", "0:2:4:6:8", "0:0:1,3:4", "0:1,3:3:4", "5:4:9,4096:0:0,9:8"] {
+        check_field(changed(P, A, 5, malformed), 2, 15, 3, 5, malformed, WINDOWS);
+    }
+    for outside in ["5:4:9", "5:10:9", "4095:0:4095", "0:0:1,3:0:4", "0:3:1,3:3:4", "0:0:0,1:1:1,2:2:2,3:4:3"] {
+        check_field(changed(P, A, 5, outside), 2, 15, 13, 5, outside, WINDOWS);
+    }
+}
+
+#[test]
+fn refusal_13() {
+    let told = format!(
+        "refused 13 at line 2: {WORDS_13}\nline 2: {}\nfields: 15\nfield 6: 0:0:8,12:9:15\nmust be: {WINDOWS}\n",
+        A_SHOWN.replace(r"10\t-\t-", r"10\t0:0:8,12:9:15\t-")
+    );
+    assert_eq!(text(&(P.to_string() + &A.replace("10 - -", "10 0:0:8,12:9:15 -"))), told);
+}
+
 // The first field that is wrong is named, whatever the others draw; a range may hang on a field before it.
 #[test]
 fn the_first_wrong_field() {
-    let two = changed(P, "act 7 1 5 10 9:8 - x - - 1 4 3 10 2\n", 0, "act");
-    check_field(
-        two,
-        2,
-        15,
-        8,
-        5,
-        "9:8",
-        "windows, - or up to 4 of the form a:b, 0 to 4095, each a at most its b and above the b before",
-    );
-    let two = changed(P, "act 7 65536 5 10 9:8 - 0 - - 1 4 3 10 07\n", 0, "act");
+    let two = changed(P, "act 7 1 5 10 9:9:8 - x - - 1 4 3 10 2\n", 0, "act");
+    check_field(two, 2, 15, 8, 5, "9:9:8", WINDOWS);
+    let two = changed(P, "act 7 1 5 10 5:4:9 - x - - 1 4 3 10 2\n", 0, "act");
+    check_field(two, 2, 15, 13, 5, "5:4:9", WINDOWS);
+    let two = changed(P, "act 7 65536 5 10 9:9:8 - 0 - - 1 4 3 10 07\n", 0, "act");
     check_field(two, 2, 15, 4, 2, "65536", "priority, 0 to 65535");
     check_field(changed("", P, 3, "19"), 1, 12, 4, 4, "20", "floor, 0 to the capacity");
     check_field(changed("", P, 3, "39"), 1, 12, 4, 5, "40", "first charge, the floor to the capacity");
@@ -337,7 +352,7 @@ fn refused_alone(place: usize, letter: char, words: &str, starts: &str) -> Strin
 #[test]
 fn each_letter() {
     for (activities, letter, words, starts) in [
-        ("act 0 0 2 0 9:9 - - - - 0 0 0 0 0\n", 'W', "the start is in one of its windows", "0-8"),
+        ("act 0 0 2 0 9:9:9 - - - - 0 0 0 0 0\n", 'W', "the start is in one of its windows", "0-8"),
         (
             "act 0 0 10 0 - - - - - 0 0 0 0 0\nact 1 1 1 0 - 0 - - - 0 0 0 0 0\n",
             'D',
@@ -383,7 +398,7 @@ fn none_one_and_several_runs() {
         "place 2, activity 2: placed from 1 to 2\n  valid starts: 0-1 3-4 6-9\n"
     );
     assert_eq!(
-        said("act 2 2 1 2 4:5 - 0 - - 0 0 0 0 0\n"),
+        said("act 2 2 1 2 4:4:5 - 0 - - 0 0 0 0 0\n"),
         "place 2, activity 2: placed from 4 to 5\n  valid starts: 4-4\n"
     );
     let refused = "place 2, activity 2: refused WU
@@ -394,20 +409,20 @@ fn none_one_and_several_runs() {
     starts that meet the other letters: 2-2 5-5
     starts that meet all other conditions: 2-2 5-5
 ";
-    assert_eq!(said("act 2 2 1 0 2:2,5:5 - 0 - - 0 0 0 0 0\n"), refused);
+    assert_eq!(said("act 2 2 1 0 2:2:2,5:5:5 - 0 - - 0 0 0 0 0\n"), refused);
     let refused = "place 2, activity 2: refused V
   V: the volumes sum to at most the volume limit
     starts that meet the other letters: 0-9
     starts that meet all other conditions: none
 ";
-    assert_eq!(said("act 2 2 1 0 20:30 - 0 - - 0 0 0 11 0\n"), refused);
+    assert_eq!(said("act 2 2 1 0 20:20:30 - 0 - - 0 0 0 11 0\n"), refused);
     assert_eq!(said("act 2 2 1 0 - - 0 - - 0 0 0 11 0\n"), refused.replace("none", "0-1 3-4 6-9"));
 }
 
 // Conditions that are not named may exclude each other: 8 of document 01's input, with too large a volume.
 #[test]
 fn conditions_that_are_not_named() {
-    let plan = EXAMPLE.replace("0:8 7 - - - 0 0 0 0 0", "0:8 7 - - - 0 0 0 41 0");
+    let plan = EXAMPLE.replace("0:0:8 7 - - - 0 0 0 0 0", "0:0:8 7 - - - 0 0 0 41 0");
     let told = "place 1, activity 8: refused V
   V: the volumes sum to at most the volume limit
     starts that meet the other letters: 0-17

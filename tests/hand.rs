@@ -1,4 +1,4 @@
-// Cases worked by hand: document 01's example, its table of refusals, its edges, and the cases beside them.
+// Cases worked by hand: document 01's example, its table of refusals, its edges, and the cases beside them, document 02's too.
 
 use differential::calls::{outcome, output, report, starts};
 use differential::cases::{cases, tabs, EXAMPLE};
@@ -85,7 +85,7 @@ fn starts_of_the_example() {
 
 #[test]
 fn runs_one_tick_apart() {
-    let plan = tabs("plan 10 840 100 0 14 0 0 64 0 0 0\nact 1 1 3 0 0:2,4:4,6:9 - - - - 0 0 0 0 0\n");
+    let plan = tabs("plan 10 840 100 0 14 0 0 64 0 0 0\nact 1 1 3 0 0:0:2,4:4:4,6:9:9 - - - - 0 0 0 0 0\n");
     assert_eq!(starts(&plan, 0, 1, 3).unwrap(), [(0, 2), (4, 4), (6, 7)]);
     assert_eq!(starts(&plan, 0, 1, 2), refuse(10, 0));
 }
@@ -125,4 +125,41 @@ fn the_check_finds_a_later_tick() {
     let plan = "plan 6 840 100 0 20 2 0 0 0 0 0\nact 1 1 1 3 - - - - - 0 0 8 0 0\n";
     assert_eq!(checked(plan, "1 placed 3 4\n", "end 1 0 24 0 20 0"), Ok(()));
     assert!(checked(plan, "1 placed 3 4\n", "end 1 0 24 0 20 4").is_err());
+}
+
+// 2 may start at 2, 3, 12, 13 and 14, since 1 holds 4 to 8; from their windows' p they are 4, 3, 2, 1 and 0.
+#[test]
+fn the_check_finds_a_start_that_is_not_the_nearest() {
+    let plan = "plan 20 840 100 0 100 0 0 64 0 0 0
+act 1 1 5 4 - - 0 - - 0 0 0 0 0
+act 2 2 1 3 2:6:8,12:14:14 - 0 - - 0 0 0 0 0
+";
+    let said =
+        |start: i64| checked(plan, &format!("1 placed 4 9\n2 placed {start} {}\n", start + 1), "end 2 0 100 0 100 0");
+    assert_eq!(said(14), Ok(()));
+    for wrong in [0, 2, 3, 4, 6, 9, 12, 13, 15] {
+        assert!(said(wrong).is_err(), "{wrong}");
+    }
+}
+
+// 4 and 9 to 11 are held. As near as the start that is due are, in turn: 5 in the same window, none, 12 and 8 in the later
+// one, none.
+#[test]
+fn the_check_finds_the_later_of_two_as_near() {
+    let held = "plan 20 840 100 0 100 0 0 64 0 0 0
+act 1 1 1 4 - - 0 - - 0 0 0 0 0
+act 2 2 3 9 - - 0 - - 0 0 0 0 0
+";
+    let said = |windows: &str, start: i64| {
+        let plan = format!("{held}act 3 3 1 12 {windows} - 0 - - 0 0 0 0 0\n");
+        let lines = format!("1 placed 4 5\n2 placed 9 12\n3 placed {start} {}\n", start + 1);
+        checked(&plan, &lines, "end 3 0 100 0 100 0")
+    };
+    for (windows, due) in
+        [("3:4:5,6:10:13", 3), ("4:4:6,7:10:13", 5), ("2:4:4,9:11:13", 3), ("0:2:3,5:8:12", 2), ("-", 12)]
+    {
+        for start in 0..20 {
+            assert_eq!(said(windows, start).is_ok(), start == due, "{windows}, {start}");
+        }
+    }
 }

@@ -1,5 +1,5 @@
-/* Holds the library to document 01 through planner.h: the worked plan, every refusal and condition, the edges, the
- * greatest numbers, the longest report, the most runs, the lent slices.
+/* Holds the library to the documents through planner.h: the worked plan, every refusal and condition, the edges, windows
+ * with their preferred ticks, the greatest numbers, the longest report, the most runs, the lent slices.
  *
  *   calls WORKED LONGEST_REPORT MOST_RUNS
  *
@@ -21,14 +21,16 @@
 /* The first line of the worked plan and its second, with some fields to be put in. */
 #define P_WITH(horizon, handover) "plan\t" horizon "\t840\t100\t20\t40\t1\t" handover "\t1\t10\t50\t1\n"
 #define A_WITH(id, windows, after) "act\t" id "\t1\t5\t10\t" windows "\t" after "\t0\t-\t1=3\t1\t4\t3\t10\t1\n"
-#define ONE_TICK(id, preferred) "act\t" id "\t0\t1\t" preferred "\t-\t-\t0\t-\t-\t0\t0\t0\t0\t0\n"
+#define TICKS(id, duration, preferred, windows)                                                                        \
+    "act\t" id "\t0\t" duration "\t" preferred "\t" windows "\t-\t0\t-\t-\t0\t0\t0\t0\t0\n"
+#define ONE_TICK(id, preferred) TICKS(id, "1", preferred, "-")
 #define P P_WITH("20", "0")
 #define A A_WITH("7", "-", "-")
 
 static const char worked_report[] =
     "7\tplaced\t10\t15\n8\trefused\tWD\n9\trefused\tV\n10\tplaced\t15\t17\nend\t2\t2\t37\t50\t34\t17\n";
 
-/* Document 01's words for the refusals, with "charge at horizon T" for c(T). */
+/* Document 01's words for the refusals, with "charge at horizon T" for c(T), and words for 13. */
 static const char *const refusal_texts[] = {
     "over 60,000 bytes",
     "first word or field count wrong, or no LF",
@@ -42,6 +44,7 @@ static const char *const refusal_texts[] = {
     "lent slice too short for the answer",
     "place not below the activity count",
     "set over 511",
+    "preferred tick outside its window",
 };
 
 /* The plan, the plan as it was before a call, and the slices lent. */
@@ -184,13 +187,17 @@ static size_t many(char *text, int count)
     return (size_t)(end - text);
 }
 
-/* The table of refusals, 1 to 9. Of 1 and 5 also the most that is not refused so. */
+/* The table of refusals, 1 to 9, and 13. Of 1 and 5 also the most that is not refused so. */
 static void refusals_of_the_plan(void)
 {
     static const char leading_zero[] = P A_WITH("07", "-", "-");
     static const char long_horizon[] = P_WITH("4097", "0");
     static const char after_itself[] = P A_WITH("7", "-", "7");
-    static const char window_falls[] = P A_WITH("7", "9:8", "-");
+    static const char window_falls[] = P A_WITH("7", "9:9:8", "-");
+    static const char two_numbers[] = P A_WITH("7", "0:8", "-");
+    static const char preferred_low[] = P A_WITH("7", "3:2:8", "-");
+    static const char preferred_high[] = P A_WITH("7", "3:9:8", "-");
+    static const char preferred_4096[] = P A_WITH("7", "3:4096:8", "-");
     static const char handover_61[] = P_WITH("20", "61");
     static char text[PLANNER_PLAN_MOST + 1];
 
@@ -198,12 +205,16 @@ static void refusals_of_the_plan(void)
     plan_refused(text, 60000, PLANNER_REFUSAL_LINE_WRONG, 1);
     plan_refused("", 0, PLANNER_REFUSAL_LINE_WRONG, 1);
     plan_refused(leading_zero, strlen(leading_zero), PLANNER_REFUSAL_MALFORMED, 2);
+    plan_refused(two_numbers, strlen(two_numbers), PLANNER_REFUSAL_MALFORMED, 2);
     plan_refused(long_horizon, strlen(long_horizon), PLANNER_REFUSAL_OUT_OF_RANGE, 1);
+    plan_refused(preferred_4096, strlen(preferred_4096), PLANNER_REFUSAL_OUT_OF_RANGE, 2);
     plan_refused(text, many(text, 65), PLANNER_REFUSAL_TOO_MANY_ACTIVITIES, 66);
     plan_refused(P A A, strlen(P A A), PLANNER_REFUSAL_ID_REPEATED, 3);
     plan_refused(after_itself, strlen(after_itself), PLANNER_REFUSAL_AFTER_NOT_EARLIER, 2);
     plan_refused(window_falls, strlen(window_falls), PLANNER_REFUSAL_LIST_WRONG, 2);
     plan_refused(handover_61, strlen(handover_61), PLANNER_REFUSAL_HANDOVER_UNMET, 0);
+    plan_refused(preferred_low, strlen(preferred_low), PLANNER_REFUSAL_OUT_OF_WINDOW, 2);
+    plan_refused(preferred_high, strlen(preferred_high), PLANNER_REFUSAL_OUT_OF_WINDOW, 2);
 
     set_plan(text, many(text, PLANNER_ACTIVITIES_MOST));
     CHECK(planner_refusal(report(PLANNER_REPORT_MOST)) == PLANNER_REFUSAL_NONE);
@@ -286,7 +297,7 @@ static void conditions_apart(void)
 {
     static const char nine_refused[] = P
         "act\t0\t0\t20\t0\t-\t-\t0\t-\t-\t0\t0\t0\t0\t0\n"
-        "act\t1\t1\t1\t0\t20:20\t-\t-\t-\t-\t0\t0\t0\t0\t0\n"
+        "act\t1\t1\t1\t0\t20:20:20\t-\t-\t-\t-\t0\t0\t0\t0\t0\n"
         "act\t2\t1\t1\t0\t-\t1\t-\t-\t-\t0\t0\t0\t0\t0\n"
         "act\t3\t1\t1\t0\t-\t-\t0\t-\t-\t0\t0\t0\t0\t0\n"
         "act\t4\t1\t1\t0\t-\t-\t-\t1=3\t-\t0\t0\t0\t0\t0\n"
@@ -304,6 +315,25 @@ static void conditions_apart(void)
         CHECK(starts(place, one, PLANNER_RUNS_MOST) == 0);
         CHECK(is_run(place, planner_all_but(one), 0, place == 9 ? 3 : 19));
     }
+}
+
+/* The preferred tick of each window, where two activities have unit 0 from a start on for some ticks and the third, of one
+ * tick, has it too: the nearest start in the later window; two equally near; and without windows, by the preferred tick
+ * of the line, which is 9. */
+static void preferred_ticks(void)
+{
+    static const char later_nearer[] = P TICKS("1", "3", "0", "-") TICKS("2", "1", "12", "-")
+        TICKS("3", "1", "9", "0:0:3,6:12:12");
+    static const char both_near[] = P TICKS("1", "2", "0", "-") TICKS("2", "2", "11", "-")
+        TICKS("3", "1", "9", "0:0:3,6:12:12");
+    static const char no_window[] = P TICKS("1", "2", "0", "-") TICKS("2", "2", "11", "-") TICKS("3", "1", "9", "-");
+
+    set_plan(later_nearer, strlen(later_nearer));
+    CHECK(is_placed(outcome(2), 11));
+    set_plan(both_near, strlen(both_near));
+    CHECK(is_placed(outcome(2), 2));
+    set_plan(no_window, strlen(no_window));
+    CHECK(is_placed(outcome(2), 9));
 }
 
 /* The lowest charge at the horizon alone, and at ticks 6 and 11: 45 at tick 5 and 30 at 6, 34 at 10 and 30 at 11. */
@@ -395,7 +425,8 @@ static int may_draw(int draw)
 static void edges(void)
 {
     static const char handover_60[] = P_WITH("20", "60");
-    static const char equally_near[] = P "act\t1\t0\t1\t12\t8:8,16:16\t-\t-\t-\t-\t0\t0\t0\t0\t0\n";
+    static const char equally_near[] = P TICKS("1", "7", "9", "-") TICKS("2", "1", "12", "-");
+    static const char in_window[] = P TICKS("1", "7", "9", "-") TICKS("2", "1", "0", "8:12:16");
 
     /* 3 and 8, 4, 5, 10 */
     CHECK(is_run(3, PLANNER_CONDITIONS_ALL, 15, 18));
@@ -409,7 +440,9 @@ static void edges(void)
     set_plan(handover_60, strlen(handover_60));
     CHECK(is_report("end\t0\t0\t60\t0\t40\t0\n", PLANNER_REPORT_MOST));
     set_plan(equally_near, strlen(equally_near));
-    CHECK(is_placed(outcome(0), 8));
+    CHECK(is_placed(outcome(1), 8));
+    set_plan(in_window, strlen(in_window));
+    CHECK(is_placed(outcome(1), 8));
     CHECK(may_draw(21) && !may_draw(22));
 }
 
@@ -417,10 +450,10 @@ static void edges(void)
 static void header(void)
 {
     CHECK(planner_version() == PLANNER_VERSION);
-    for (uint32_t number = 1; number <= 12; number++)
+    for (uint32_t number = 1; number <= 13; number++)
         CHECK(strcmp(planner_refusal_text(number), refusal_texts[number - 1]) == 0);
     CHECK(strcmp(planner_refusal_text(0), "no refusal") == 0);
-    CHECK(strcmp(planner_refusal_text(13), "unknown refusal") == 0);
+    CHECK(strcmp(planner_refusal_text(14), "unknown refusal") == 0);
     CHECK(strcmp(planner_refusal_text(257), "unknown refusal") == 0);
     CHECK(strcmp(planner_refusal_text(UINT32_MAX), "unknown refusal") == 0);
     for (int c = 0; c < 9; c++)
@@ -468,6 +501,7 @@ int main(int count, char **words)
     refusals_of_the_plan();
     five_runs();
     conditions_apart();
+    preferred_ticks();
     lowest_charge();
     longest_report(text, read_plan(words[2], text, sizeof text));
     most_runs(text, read_plan(words[3], text, sizeof text));

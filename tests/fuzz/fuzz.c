@@ -2,12 +2,13 @@
 
 #include "planner.h"
 
+#include <inttypes.h>
 #include <stdio.h>
 #include <stdlib.h>
 #include <string.h>
 
 enum { REPORT = PLANNER_REPORT_MOST, RUNS = PLANNER_RUNS_MOST, ALL = PLANNER_CONDITIONS_ALL };
-enum { GUARD = 64, CHOICES = 6, FEW = 6, WORK = 12300 };
+enum { GUARD = 64, CHOICES = 6, FEW = 6, WORK = 12300, WINDOWS = 4 };
 
 // The letters of the conditions, in the order of their bits.
 static const char LETTERS[] = "WDUSEPBVH";
@@ -26,6 +27,13 @@ struct line {
     int count;
 };
 
+// A window of an activity.
+struct window {
+    uint32_t from;
+    uint32_t preferred;
+    uint32_t to;
+};
+
 // What one of the three calls answered.
 struct answer {
     uint32_t value;
@@ -41,13 +49,18 @@ static void ensure(int holds, const char *what) {
     }
 }
 
+// Whether a refusal is of a call; the others are of the plan.
+static int of_call(uint32_t number) {
+    return number >= 10 && number <= 12;
+}
+
 // The parts of an answer's number; the plan is as it was.
 static struct answer parts(const struct plan *plan, uint64_t number) {
     struct answer answer = {(uint32_t)number, number >> 32 & 255, number >> 40 & 1};
     ensure(number >> 41 == 0, "bits 41 to 63 are 0");
-    ensure(answer.number <= 12, "a refusal is 1 to 12");
+    ensure(answer.number <= 13, "a refusal is 1 to 13");
     ensure(!answer.placed || answer.number == 0, "a refusal isn't placed");
-    ensure(answer.number < 10 || answer.value == 0, "refusals 10 to 12 have line 0");
+    ensure(!of_call(answer.number) || answer.value == 0, "refusals 10 to 12 have line 0");
     ensure(memcmp(plan->bytes, plan->kept, plan->length) == 0, "a call leaves the plan as it was");
     return answer;
 }
@@ -80,7 +93,7 @@ static void check_lent(const uint8_t *slice, size_t length, size_t written) {
 static struct answer report(const struct plan *plan, size_t room, uint8_t text[REPORT]) {
     uint8_t *slice = lend(room);
     struct answer answer = parts(plan, planner_report(plan->bytes, plan->length, slice, room));
-    ensure(!answer.placed && answer.number < 11, "report has no refusal 11 or 12");
+    ensure(!answer.placed && (!of_call(answer.number) || answer.number == 10), "report has no refusal 11 or 12");
     size_t written = answer.number ? 0 : answer.value;
     ensure(written <= REPORT && written <= room, "a report fits its slice");
     check_lent(slice, room, written);
@@ -232,14 +245,48 @@ static uint32_t apart(uint32_t one, uint32_t other) {
     return one < other ? other - one : one - other;
 }
 
-// A placed start is valid, and no valid one is nearer to the preferred tick; of two equally near, it is the earlier.
-static void check_nearest(const struct planner_interval *runs, uint32_t count, uint32_t start, uint32_t preferred) {
+// The windows of an activity's line, each with its preferred tick; without any, one of all starts with the activity's.
+static uint32_t windows_of(const struct line *activity, struct window windows[WINDOWS]) {
+    uint32_t count = 0;
+    const char *field = activity->fields[5];
+    windows[0] = (struct window){0, number_of(activity->fields[4]), UINT32_MAX};
+    if (strcmp(field, "-") == 0) return 1;
+    for (const char *at = field; at; at = strchr(at, ',')) {
+        ensure(count < WINDOWS, "a list has at most 4 windows");
+        struct window *window = &windows[count++];
+        at += *at == ',';
+        ensure(sscanf(at, "%" SCNu32 ":%" SCNu32 ":%" SCNu32, &window->from, &window->preferred, &window->to) == 3,
+               "a window is three numbers");
+    }
+    return count;
+}
+
+// How far a start is from the preferred tick of its window.
+static uint32_t distance(const struct window *windows, uint32_t count, uint32_t start) {
+    uint32_t at = 0;
+    while (at < count && (start < windows[at].from || windows[at].to < start)) at++;
+    ensure(at < count, "a placed start is in a window");
+    return apart(start, windows[at].preferred);
+}
+
+// A placed start is valid, and no valid one of any window is nearer to the window's preferred tick; of two equally near,
+// it is the earlier.
+static void check_nearest(const struct planner_interval *runs, uint32_t count, uint32_t start,
+                          const struct line *activity) {
+    struct window windows[WINDOWS];
+    uint32_t window_count = windows_of(activity, windows);
     ensure(within(runs, count, start, start), "a placed start is valid");
+    uint32_t own = distance(windows, window_count, start);
     for (uint32_t i = 0; i < count; i++) {
-        uint32_t near = preferred < runs[i].first ? runs[i].first : preferred;
-        if (near > runs[i].last) near = runs[i].last;
-        ensure(apart(near, preferred) >= apart(start, preferred), "no valid start is nearer");
-        ensure(near >= start || apart(near, preferred) > apart(start, preferred), "none as near is earlier");
+        for (uint32_t w = 0; w < window_count; w++) {
+            uint32_t first = runs[i].first > windows[w].from ? runs[i].first : windows[w].from;
+            uint32_t last = runs[i].last < windows[w].to ? runs[i].last : windows[w].to;
+            if (first > last) continue;
+            uint32_t near = windows[w].preferred < first ? first : windows[w].preferred;
+            if (near > last) near = last;
+            ensure(apart(near, windows[w].preferred) >= own, "no valid start is nearer");
+            ensure(near >= start || apart(near, windows[w].preferred) > own, "none as near is earlier");
+        }
     }
 }
 
@@ -297,7 +344,7 @@ static void check_place(const struct plan *plan, const struct line *line, size_t
     struct answer answer = starts(plan, place, ALL, RUNS + 1, valid);
     ensure(answer.number == 0, "starts answers");
     if (line->count == 4) {
-        check_nearest(valid, answer.value, number_of(line->fields[2]), number_of(activity.fields[4]));
+        check_nearest(valid, answer.value, number_of(line->fields[2]), &activity);
     } else {
         ensure(answer.value == 0, "a refused activity has no valid start");
         check_letters(plan, place, set_of(line->fields[2]));
@@ -362,7 +409,7 @@ int LLVMFuzzerTestOneInput(const uint8_t *data, size_t size) {
     ensure(length == 0 || plan.bytes != NULL, "there is memory for a plan");
     memcpy(plan.bytes, data, length);
     struct answer answer = report(&plan, REPORT, text);
-    ensure(answer.number < 10, "PLANNER_REPORT_MOST bytes are enough for a report");
+    ensure(!of_call(answer.number), "PLANNER_REPORT_MOST bytes are enough for a report");
     if (answer.number) {
         check_refused(&plan, answer, set, place);
     } else {

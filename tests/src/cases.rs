@@ -1,4 +1,4 @@
-// Plans worked by hand from document 01, with the output that the program must give.
+// Plans worked by hand from documents 01 and 02, with the output that the program must give.
 
 pub struct Case {
     pub name: String,
@@ -12,7 +12,7 @@ pub const A: &str = "act 7 1 5 10 - - 0 - 1=3 1 4 3 10 1\n";
 // The input of document 01.
 pub const EXAMPLE: &str = "plan 20 840 100 20 40 1 0 1 10 50 1
 act 7 1 5 10 - - 0 - 1=3 1 4 3 10 1
-act 8 2 3 0 0:8 7 - - - 0 0 0 0 0
+act 8 2 3 0 0:0:8 7 - - - 0 0 0 0 0
 act 9 3 2 12 - - 0 1=3 - 1 7 2 41 0
 act 10 4 2 12 - - 0 1=3 - 1 7 2 40 0
 ";
@@ -37,7 +37,8 @@ pub fn cases() -> Vec<Case> {
     let mut cases = vec![case("the input of document 01", EXAMPLE, EXAMPLE_REPORT)];
     cases.extend(refusal_table());
     cases.extend(order_of_checks());
-    let placings = [EDGES, CHARGE, STATE, HEATER, STARTS, SHARED, LETTERS, LOWEST];
+    cases.extend(windows());
+    let placings = [EDGES, CHARGE, STATE, HEATER, STARTS, WINDOWS, SHARED, LETTERS, LOWEST];
     for (name, plan, output) in placings.concat() {
         cases.push(case(name, plan, output));
     }
@@ -58,7 +59,7 @@ fn refusal_table() -> Vec<Case> {
         case("row 5, 65 activities", &many(65), "no 5 66\n"),
         case("row 6, P, A, A", &(P.to_string() + A + A), "no 6 3\n"),
         case("row 7, A with after 7", &(P.to_string() + &A.replace("10 - - 0", "10 - 7 0")), "no 7 2\n"),
-        case("row 8, window 9:8", &(P.to_string() + &A.replace("10 - - 0", "10 9:8 - 0")), "no 8 2\n"),
+        case("row 8, window 9:9:8", &(P.to_string() + &A.replace("10 - - 0", "10 9:9:8 - 0")), "no 8 2\n"),
         case("row 9, handover 61", &P.replace("40 1 0 1", "40 1 61 1"), "no 9 0\n"),
     ];
     let over = Case { name: "row 1, 60,001 bytes".to_string(), plan: padded(60_001), output: tabs("no 1 0\n") };
@@ -105,13 +106,12 @@ fn order_of_checks() -> Vec<Case> {
         case("out of range before malformed", &with("7 1 5", "65536 x 5"), "no 4 2\n"),
         case("a list's dash among items", &with("10 - - 0", "10 - - 0,-"), "no 3 2\n"),
         case("a list's empty item", &with("10 - - 0", "10 - - 0,"), "no 3 2\n"),
-        case("a window without its second bound", &with("10 - - 0", "10 4 - 0"), "no 3 2\n"),
-        case("a window out of range and turned round", &with("10 - - 0", "10 4096:8 - 0"), "no 4 2\n"),
-        case("a window turned round, then one malformed", &with("10 - - 0", "10 9:8,1 - 0"), "no 3 2\n"),
-        case("a window turned round, then one out of range", &with("10 - - 0", "10 9:8,10:4096 - 0"), "no 4 2\n"),
-        case("windows that touch", &with("10 - - 0", "10 1:3,3:4 - 0"), "no 8 2\n"),
-        case("five windows, the last malformed", &with("10 - - 0", "10 0:0,1:1,2:2,3:3,x - 0"), "no 3 2\n"),
-        case("five windows", &with("10 - - 0", "10 0:0,1:1,2:2,3:3,4:4 - 0"), "no 8 2\n"),
+        case("a window out of range and turned round", &with("10 - - 0", "10 4096:8:8 - 0"), "no 4 2\n"),
+        case("a window turned round, then one malformed", &with("10 - - 0", "10 9:9:8,1 - 0"), "no 3 2\n"),
+        case("a window turned round, then one out of range", &with("10 - - 0", "10 9:9:8,10:10:4096 - 0"), "no 4 2\n"),
+        case("windows that touch", &with("10 - - 0", "10 1:3:3,3:4:4 - 0"), "no 8 2\n"),
+        case("five windows, the last malformed", &with("10 - - 0", "10 0:0:0,1:1:1,2:2:2,3:3:3,x - 0"), "no 3 2\n"),
+        case("five windows", &with("10 - - 0", "10 0:0:0,1:1:1,2:2:2,3:3:3,4:4:4 - 0"), "no 8 2\n"),
         case("nine in after", &with("10 - - 0", "10 - 1,2,3,4,5,6,8,9,10 0"), "no 8 2\n"),
         case("unit 32", &with("10 - - 0", "10 - - 32"), "no 4 2\n"),
         case("units not rising", &with("10 - - 0", "10 - - 3,2"), "no 8 2\n"),
@@ -133,6 +133,69 @@ fn order_of_checks() -> Vec<Case> {
     for (name, plan, output) in AFTER {
         cases.push(case(name, plan, output));
     }
+    cases
+}
+
+// A's windows, and the refusal that they draw.
+#[rustfmt::skip]
+const REFUSED_WINDOWS: &[(&str, &str, u32)] = &[
+    ("a window of one number", "4", 3),
+    ("a window of two numbers, the old form", "0:8", 3),
+    ("a window of four numbers", "0:4:8:12", 3),
+    ("a window without its p", "0::8", 3),
+    ("a window of three numbers, then one of two", "0:0:1,3:4", 3),
+    ("a window of two numbers, then one of three", "0:1,3:3:4", 3),
+    ("a p with a leading zero", "0:04:8", 3),
+    ("a window with the sign of a need", "0=4=8", 3),
+    ("a p over 4,095, its b too", "0:4096:4096", 4),
+    ("a p over 4,095 and over its b", "0:4096:8", 4),
+    ("a p over 4,095 in a window turned round", "9:4096:8", 4),
+    ("a p below its a in a window turned round", "9:7:8", 8),
+    ("a p between the bounds of a window turned round", "9:8:7", 8),
+    ("a p below its a, then a window that doesn't rise", "5:4:9,9:9:9", 8),
+    ("a p below its a in the first of five windows", "1:0:1,2:2:2,3:3:3,4:4:4,5:5:5", 8),
+    ("a p below its a in the fifth window", "0:0:0,1:1:1,2:2:2,3:3:3,5:4:5", 8),
+    ("a p below its a", "5:4:9", 13),
+    ("a p over its b", "5:10:9", 13),
+    ("a p far below its a", "4095:0:4095", 13),
+    ("a p far over its b", "0:4095:0", 13),
+    ("a p below the only tick of its window", "5:4:5", 13),
+    ("a p over the only tick of its window", "5:6:5", 13),
+    ("a p of the second window below its a", "0:0:1,3:2:4", 13),
+    ("a p of the fourth window over its b", "0:0:0,1:1:1,2:2:2,3:4:3", 13),
+    ("the p of each of two windows in the other", "0:3:1,3:1:4", 13),
+    ("windows with 3, 4, 8 and 13", "5:4:9,8:8:4096,7", 3),
+    ("the same without the malformed one: 4, 8 and 13", "5:4:9,8:8:4096,7:7:7", 4),
+    ("the same with its numbers in range: 8 and 13", "5:4:9,8:8:14,7:7:7", 8),
+    ("the same with windows that rise: 13", "5:4:9,12:12:14,17:17:17", 13),
+];
+
+// The refusals of windows, alone and beside other faults.
+fn windows() -> Vec<Case> {
+    let with = |windows: &str| P.to_string() + &A.replace("10 - - 0", &format!("10 {windows} - 0"));
+    let refused = |name: &str, plan: &str, number: u32| case(name, plan, &format!("no {number} 2\n"));
+    let outside = with("5:4:9");
+    let beside = |name: &str, from: &str, to: &str, number: u32| refused(name, &outside.replace(from, to), number);
+    let again = outside[P.len()..].to_string();
+    let mut cases: Vec<Case> = REFUSED_WINDOWS.iter().map(|row| refused(row.0, &with(row.1), row.2)).collect();
+    cases.extend([
+        // The charge rises from 40 to 42, is 42 while the heater draws in ticks 2 to 5, falls to 32 at 11 and rises to 41.
+        case(
+            "the same with each p in its window",
+            &with("5:6:9,12:12:14,17:17:17"),
+            "7 placed 6 11\nend 1 0 41 10 32 11\n",
+        ),
+        beside("13 after a malformed preferred field", "5 10 5:4:9", "5 x 5:4:9", 3),
+        beside("13 after a preferred field over 4,095", "5 10 5:4:9", "5 4096 5:4:9", 4),
+        beside("13 after a field too few", "10 1\n", "10\n", 2),
+        beside("13 before a malformed field behind it", "5:4:9 -", "5:4:9 x", 13),
+        beside("13 before a list behind it that doesn't rise", "5:4:9 - 0", "5:4:9 - 3,2", 13),
+        beside("13 before an `after` of no one", "5:4:9 -", "5:4:9 9", 13),
+        beside("13 before a handover charge out of reach", "40 1 0 1", "40 1 61 1", 13),
+        refused("13 before a line without its LF", &(outside.clone() + "act"), 13),
+        case("13 before an id again", &(P.to_string() + A + &again), "no 13 3\n"),
+        case("65th line with a p outside its window", &(many(64) + &again.replace("act 7", "act 65")), "no 5 66\n"),
+    ]);
     cases
 }
 
@@ -177,8 +240,11 @@ const EDGES: &[Text] = &[
     ("edge 6, handover 60", "plan 20 840 100 20 40 1 60 1 10 50 1\n", "end 0 0 60 0 40 0\n"),
     (
         "edge 7, valid 8 and 16, preferred 12",
-        "plan 20 840 100 20 40 1 0 1 10 50 1\nact 1 1 2 12 8:8,16:16 - - - - 0 0 0 0 0\n",
-        "1 placed 8 10\nend 1 0 60 0 40 0\n",
+        "plan 20 840 100 20 40 1 0 1 10 50 1
+act 1 1 6 10 - - 0 - - 0 0 0 0 0
+act 2 2 2 12 - - 0 - - 0 0 0 0 0
+",
+        "1 placed 10 16\n2 placed 8 10\nend 2 0 60 0 40 0\n",
     ),
     (
         "edge 8, s + d = T",
@@ -235,7 +301,7 @@ act 2 2 5 0 - - - - - 0 0 2 0 0
     (
         "charge missing behind the candidate's own ticks",
         "plan 10 840 100 0 30 0 0 64 0 0 0
-act 1 1 2 8 8:8 - - - - 0 0 10 0 0
+act 1 1 2 8 8:8:8 - - - - 0 0 10 0 0
 act 2 2 2 0 - - - - - 0 0 8 0 0
 ",
         "1 placed 8 10\n2 refused B\nend 1 1 10 0 10 10\n",
@@ -261,7 +327,7 @@ const STATE: &[Text] = &[
     (
         "a set that spoils a placed need",
         "plan 20 840 100 0 100 0 0 64 0 0 0
-act 1 1 3 5 5:5 - - 0=0 - 0 0 0 0 0
+act 1 1 3 5 5:5:5 - - 0=0 - 0 0 0 0 0
 act 2 2 2 0 - - - - 0=1 0 0 0 0 0
 ",
         "1 placed 5 8\n2 placed 6 8\nend 2 0 100 0 100 0\n",
@@ -269,7 +335,7 @@ act 2 2 2 0 - - - - 0=1 0 0 0 0 0
     (
         "a set to the needed value spoils nothing",
         "plan 20 840 100 0 100 0 0 64 0 0 0
-act 1 1 3 5 5:5 - - 0=0 - 0 0 0 0 0
+act 1 1 3 5 5:5:5 - - 0=0 - 0 0 0 0 0
 act 2 2 2 0 - - - - 0=0,1=4 0 0 0 0 0
 ",
         "1 placed 5 8\n2 placed 0 2\nend 2 0 100 0 100 0\n",
@@ -277,8 +343,8 @@ act 2 2 2 0 - - - - 0=0,1=4 0 0 0 0 0
     (
         "equal effect ticks: the later place stands, not the later line",
         "plan 20 840 100 0 100 0 0 64 0 0 0
-act 2 2 4 1 1:1 - - - 0=2 0 0 0 0 0
-act 1 1 2 3 3:3 - - - 0=1 0 0 0 0 0
+act 2 2 4 1 1:1:1 - - - 0=2 0 0 0 0 0
+act 1 1 2 3 3:3:3 - - - 0=1 0 0 0 0 0
 act 3 3 2 9 - - - 0=2 - 0 0 0 0 0
 act 4 4 2 9 - - - 0=1 - 0 0 0 0 0
 ",
@@ -288,8 +354,8 @@ act 4 4 2 9 - - - 0=1 - 0 0 0 0 0
     (
         "the later effect tick stands, of whatever place",
         "plan 20 840 100 0 100 0 0 64 0 0 0
-act 1 1 2 4 4:4 - - - 0=1 0 0 0 0 0
-act 2 2 2 2 2:2 - - - 0=2 0 0 0 0 0
+act 1 1 2 4 4:4:4 - - - 0=1 0 0 0 0 0
+act 2 2 2 2 2:2:2 - - - 0=2 0 0 0 0 0
 act 3 3 2 19 - - - 0=2 - 0 0 0 0 0
 ",
         "1 placed 4 6\n2 placed 2 4\n3 placed 4 6\nend 3 0 100 0 100 0\n",
@@ -297,7 +363,7 @@ act 3 3 2 19 - - - 0=2 - 0 0 0 0 0
     (
         "a need met only by 0 at tick 0",
         "plan 10 840 100 0 100 0 0 64 0 0 0
-act 1 1 1 0 0:0 - - - 3=5 0 0 0 0 0
+act 1 1 1 0 0:0:0 - - - 3=5 0 0 0 0 0
 act 2 2 1 9 - - - 3=0 - 0 0 0 0 0
 ",
         "1 placed 0 1\n2 placed 0 1\nend 2 0 100 0 100 0\n",
@@ -316,7 +382,7 @@ act 2 2 1 9 - - - 3=0 - 0 0 0 0 0
     (
         "a need unmet at the last ticks only",
         "plan 12 840 100 0 100 0 0 64 0 0 0
-act 1 1 2 4 4:4 - - - 0=1 0 0 0 0 0
+act 1 1 2 4 4:4:4 - - - 0=1 0 0 0 0 0
 act 2 2 4 4 - - - 0=0 - 0 0 0 0 0
 ",
         "1 placed 4 6\n2 placed 2 6\nend 2 0 100 0 100 0\n",
@@ -348,7 +414,7 @@ act 3 3 1 4 - - - - - 0 0 0 0 1
     (
         "the heater holds no unit and no engine",
         "plan 10 840 100 0 20 0 0 1 5 0 0
-act 1 1 4 0 0:0 - 2 - - 1 5 0 0 0
+act 1 1 4 0 0:0:0 - 2 - - 1 5 0 0 0
 act 2 2 2 4 - - 2 - - 1 5 0 0 1
 ",
         "1 placed 0 4\n2 placed 4 6\nend 2 0 20 0 20 0\n",
@@ -368,18 +434,13 @@ act 2 2 2 4 - - 2 - - 1 5 0 0 1
 
 const STARTS: &[Text] = &[
     (
-        "two windows, the nearer bound",
-        "plan 20 840 100 0 100 0 0 64 0 0 0\nact 1 1 1 7 0:2,10:12 - - - - 0 0 0 0 0\n",
-        "1 placed 10 11\nend 1 0 100 0 100 0\n",
-    ),
-    (
         "a window bounds the start only",
-        "plan 20 840 100 0 100 0 0 64 0 0 0\nact 1 1 9 7 3:4 - - - - 0 0 0 0 0\n",
+        "plan 20 840 100 0 100 0 0 64 0 0 0\nact 1 1 9 7 3:4:4 - - - - 0 0 0 0 0\n",
         "1 placed 4 13\nend 1 0 100 0 100 0\n",
     ),
     (
         "windows behind the last start",
-        "plan 20 840 100 0 100 0 0 64 0 0 0\nact 1 1 9 7 12:19,4095:4095 - - - - 0 0 0 0 0\n",
+        "plan 20 840 100 0 100 0 0 64 0 0 0\nact 1 1 9 7 12:12:19,4095:4095:4095 - - - - 0 0 0 0 0\n",
         "1 refused W\nend 0 1 100 0 100 0\n",
     ),
     (
@@ -390,7 +451,7 @@ const STARTS: &[Text] = &[
     (
         "a tie of two starts",
         "plan 12 840 100 0 100 0 0 64 0 0 0
-act 1 1 3 4 4:4 - 0 - - 0 0 0 0 0
+act 1 1 3 4 4:4:4 - 0 - - 0 0 0 0 0
 act 2 2 1 5 - - 0 - - 0 0 0 0 0
 ",
         "1 placed 4 7\n2 placed 3 4\nend 2 0 100 0 100 0\n",
@@ -424,12 +485,135 @@ act 3 3 1 0 - 2 - - - 0 0 0 0 0
     ),
 ];
 
+// Windows with preferred ticks of their own, where the preferred field asks for another start.
+const WINDOWS: &[Text] = &[
+    (
+        "p at either end of a window and between them",
+        "plan 20 840 100 0 100 0 0 64 0 0 0
+act 1 1 1 9 3:3:9 - - - - 0 0 0 0 0
+act 2 2 1 3 3:9:9 - - - - 0 0 0 0 0
+act 3 3 1 3 3:6:9 - - - - 0 0 0 0 0
+act 4 4 1 3 6:6:6 - - - - 0 0 0 0 0
+act 5 5 1 3 - - - - - 0 0 0 0 0
+",
+        "1 placed 3 4\n2 placed 9 10\n3 placed 6 7\n4 placed 6 7\n5 placed 3 4\nend 5 0 100 0 100 0\n",
+    ),
+    // 4 to 8 are held. 2 has 13; of 12 and 14, as near to 13, 3 has the first; 3 is 3 from 6, and 2 is 4 from it.
+    (
+        "the nearer start in the later of two windows",
+        "plan 20 840 100 0 100 0 0 64 0 0 0
+act 1 1 5 4 - - 0 - - 0 0 0 0 0
+act 2 2 1 3 2:6:8,12:13:14 - 0 - - 0 0 0 0 0
+act 3 3 1 3 2:6:8,12:13:14 - 0 - - 0 0 0 0 0
+act 4 4 1 3 2:6:8,12:13:14 - 0 - - 0 0 0 0 0
+act 5 5 1 2 2:6:8,12:13:14 - 0 - - 0 0 0 0 0
+act 6 6 1 3 2:6:8,12:13:14 - 0 - - 0 0 0 0 0
+act 7 7 1 3 2:6:8,12:13:14 - 0 - - 0 0 0 0 0
+",
+        "1 placed 4 9
+2 placed 13 14
+3 placed 12 13
+4 placed 14 15
+5 placed 3 4
+6 placed 2 3
+7 refused WU
+end 6 1 100 0 100 0
+",
+    ),
+    // Each of the two windows has its p, then one on each side of it, then two.
+    (
+        "ties of starts in two windows go to the earlier start",
+        "plan 20 840 100 0 100 0 0 64 0 0 0
+act 1 1 1 11 2:4:6,9:11:13 - 0 - - 0 0 0 0 0
+act 2 2 1 4 2:4:6,9:11:13 - 0 - - 0 0 0 0 0
+act 3 3 1 12 2:4:6,9:11:13 - 0 - - 0 0 0 0 0
+act 4 4 1 12 2:4:6,9:11:13 - 0 - - 0 0 0 0 0
+act 5 5 1 12 2:4:6,9:11:13 - 0 - - 0 0 0 0 0
+act 6 6 1 2 2:4:6,9:11:13 - 0 - - 0 0 0 0 0
+act 7 7 1 13 2:4:6,9:11:13 - 0 - - 0 0 0 0 0
+act 8 8 1 13 2:4:6,9:11:13 - 0 - - 0 0 0 0 0
+act 9 9 1 13 2:4:6,9:11:13 - 0 - - 0 0 0 0 0
+",
+        "1 placed 4 5
+2 placed 11 12
+3 placed 3 4
+4 placed 5 6
+5 placed 10 11
+6 placed 12 13
+7 placed 2 3
+8 placed 6 7
+9 placed 9 10
+end 9 0 100 0 100 0
+",
+    ),
+    // 4 to 6 are held, and 3 and 7 are as near to 5.
+    (
+        "a tie of two starts in one window",
+        "plan 20 840 100 0 100 0 0 64 0 0 0
+act 1 1 3 4 - - 0 - - 0 0 0 0 0
+act 2 2 1 9 0:5:9 - 0 - - 0 0 0 0 0
+",
+        "1 placed 4 7\n2 placed 3 4\nend 2 0 100 0 100 0\n",
+    ),
+    // 0 to 4 and 6 to 8 are held. 5 is 5 from 0, and 9 is 3 from 6; 5 is 1 from 6, but not in its window.
+    (
+        "the p of the window that holds the start, not the p that is nearest",
+        "plan 20 840 100 0 100 0 0 64 0 0 0
+act 1 1 5 0 - - 0 - - 0 0 0 0 0
+act 2 2 3 6 - - 0 - - 0 0 0 0 0
+act 3 3 1 5 0:0:5,6:6:9 - 0 - - 0 0 0 0 0
+",
+        "1 placed 0 5\n2 placed 6 9\n3 placed 9 10\nend 3 0 100 0 100 0\n",
+    ),
+    // 4 is 4 from 0, and 5 is 4 from 9.
+    (
+        "a tie of two starts side by side in two windows",
+        "plan 20 840 100 0 100 0 0 64 0 0 0
+act 1 1 4 0 - - 0 - - 0 0 0 0 0
+act 2 2 4 6 - - 0 - - 0 0 0 0 0
+act 3 3 1 5 0:0:4,5:9:9 - 0 - - 0 0 0 0 0
+act 4 4 1 4 0:0:4,5:9:9 - 0 - - 0 0 0 0 0
+",
+        "1 placed 0 4\n2 placed 6 10\n3 placed 4 5\n4 placed 5 6\nend 4 0 100 0 100 0\n",
+    ),
+    // The last start is 11. For 2 it is 7 from 18, and 2 is its window's p; for 4 the later window has no start.
+    (
+        "p behind the last start, in a window that reaches beyond it",
+        "plan 20 840 100 0 100 0 0 64 0 0 0
+act 1 1 9 0 5:18:19 - - - - 0 0 0 0 0
+act 2 2 9 11 0:2:3,5:18:19 - - - - 0 0 0 0 0
+act 3 3 9 0 0:4095:4095 - - - - 0 0 0 0 0
+act 4 4 9 9 0:0:1,12:12:19 - - - - 0 0 0 0 0
+",
+        "1 placed 11 20\n2 placed 2 11\n3 placed 11 20\n4 placed 0 9\nend 4 0 100 0 100 0\n",
+    ),
+    // w is 4, so 0 to 3 are too early; the last start is 9. 4 is 3 from 1, and 9 is 2 from 11 and 3 from 12.
+    (
+        "p too early for the warm-up, and p behind the last start",
+        "plan 11 840 100 0 100 0 0 64 0 0 0
+act 1 1 2 0 0:1:5,7:11:12 - - - - 0 0 0 0 1
+act 2 2 2 9 0:1:5,7:12:12 - - - - 0 0 0 0 1
+",
+        "1 placed 9 11\n2 placed 4 6\nend 2 0 100 0 100 0\n",
+    ),
+    // 12 may start from 6 on, which is 5 from 1, and 11 holds 8; 7 and 9 are 1 from it.
+    (
+        "an end in the way of the first p, a unit in that of the second",
+        "plan 20 840 100 0 100 0 0 64 0 0 0
+act 10 1 6 0 0:0:0 - - - - 0 0 0 0 0
+act 11 2 1 1 8:8:8 - 0 - - 0 0 0 0 0
+act 12 3 1 1 0:1:6,7:8:12 10 0 - - 0 0 0 0 0
+",
+        "10 placed 0 6\n11 placed 8 9\n12 placed 7 8\nend 3 0 100 0 100 0\n",
+    ),
+];
+
 const SHARED: &[Text] = &[
     // 1 holds unit 3 in ticks 2 to 4; 2 may start at 0 or from 5 on.
     (
         "a unit held up to the last tick",
         "plan 10 840 100 0 100 0 0 64 0 0 0
-act 1 1 3 2 2:2 - 3 - - 0 0 0 0 0
+act 1 1 3 2 2:2:2 - 3 - - 0 0 0 0 0
 act 2 2 2 3 - - 1,3 - - 0 0 0 0 0
 act 3 3 2 3 - - 1 - - 0 0 0 0 0
 ",
@@ -469,32 +653,32 @@ act 3 3 1 0 - - - - - 0 0 0 0 0
 const LETTERS: &[Text] = &[
     (
         "W and H",
-        "plan 10 840 100 0 100 0 0 1 0 0 0\nact 1 1 1 5 0:3 - - - - 0 0 0 0 1\n",
+        "plan 10 840 100 0 100 0 0 1 0 0 0\nact 1 1 1 5 0:3:3 - - - - 0 0 0 0 1\n",
         "1 refused WH\nend 0 1 100 0 100 0\n",
     ),
     // V fails at every start, so every other letter goes.
     (
         "V beside a closed window",
-        "plan 10 840 100 0 100 0 0 1 0 3 0\nact 1 1 1 5 12:13 - - - - 2 0 0 4 0\n",
+        "plan 10 840 100 0 100 0 0 1 0 3 0\nact 1 1 1 5 12:13:13 - - - - 2 0 0 4 0\n",
         "1 refused V\nend 0 1 100 0 100 0\n",
     ),
     // U bars 0 and 1, E bars 2 and 3, W bars 4 and 5.
     (
         "three letters",
         "plan 6 840 100 0 100 0 0 1 0 0 0
-act 1 1 2 0 0:0 - 0 - - 0 0 0 0 0
-act 2 2 2 2 2:2 - - - - 1 0 0 0 0
-act 3 3 1 5 0:3 - 0 - - 1 0 0 0 0
+act 1 1 2 0 0:0:0 - 0 - - 0 0 0 0 0
+act 2 2 2 2 2:2:2 - - - - 1 0 0 0 0
+act 3 3 1 5 0:3:3 - 0 - - 1 0 0 0 0
 ",
         "1 placed 0 2\n2 placed 2 4\n3 refused WUE\nend 2 1 100 0 100 0\n",
     ),
     (
         "four letters",
         "plan 8 840 100 0 100 0 0 1 9 0 0
-act 1 1 2 0 0:0 - 0 - - 0 0 0 0 0
-act 2 2 2 2 2:2 - - - - 1 0 0 0 0
-act 3 3 2 4 4:4 - - - - 0 9 0 0 0
-act 4 4 1 5 0:5 - 0 - - 1 1 0 0 0
+act 1 1 2 0 0:0:0 - 0 - - 0 0 0 0 0
+act 2 2 2 2 2:2:2 - - - - 1 0 0 0 0
+act 3 3 2 4 4:4:4 - - - - 0 9 0 0 0
+act 4 4 1 5 0:5:5 - 0 - - 1 1 0 0 0
 ",
         "1 placed 0 2\n2 placed 2 4\n3 placed 4 6\n4 refused WUEP\nend 3 1 100 0 100 0\n",
     ),
@@ -512,15 +696,15 @@ act 2 2 1 0 - - 0 - - 1 9 0 0 0
     (
         "seven letters",
         "plan 14 840 100 0 100 50 0 1 9 0 0
-act 1 1 2 0 0:0 - - - - 0 0 0 0 0
-act 2 2 2 2 2:2 - 0 - - 0 0 0 0 0
-act 3 3 1 3 3:3 - - - 0=1 0 0 0 0 0
-act 4 4 1 5 5:5 - - - 0=0 0 0 0 0 0
-act 5 5 2 6 6:6 - - - - 1 0 0 0 0
-act 6 6 2 8 8:8 - - - - 0 9 0 0 0
-act 7 7 2 10 10:10 - - - - 0 0 50 0 0
-act 8 8 1 10 10:10 - - - - 0 0 100 0 0
-act 9 9 1 7 0:11 1 0 0=0 - 1 1 10 0 0
+act 1 1 2 0 0:0:0 - - - - 0 0 0 0 0
+act 2 2 2 2 2:2:2 - 0 - - 0 0 0 0 0
+act 3 3 1 3 3:3:3 - - - 0=1 0 0 0 0 0
+act 4 4 1 5 5:5:5 - - - 0=0 0 0 0 0 0
+act 5 5 2 6 6:6:6 - - - - 1 0 0 0 0
+act 6 6 2 8 8:8:8 - - - - 0 9 0 0 0
+act 7 7 2 10 10:10:10 - - - - 0 0 50 0 0
+act 8 8 1 10 10:10:10 - - - - 0 0 100 0 0
+act 9 9 1 7 0:7:11 1 0 0=0 - 1 1 10 0 0
 ",
         "1 placed 0 2
 2 placed 2 4

@@ -49,7 +49,7 @@ pub fn tables(plan: &Plan, candidate: &Activity, placed: &[Placed]) -> Vec<Vec<b
 
 fn in_window(candidate: Placed) -> bool {
     let windows = &candidate.activity.windows;
-    windows.is_empty() || windows.iter().any(|&(a, b)| a <= candidate.start && candidate.start <= b)
+    windows.is_empty() || windows.iter().any(|w| w.from <= candidate.start && candidate.start <= w.to)
 }
 
 fn after_ends(candidate: Placed, placed: &[Placed]) -> bool {

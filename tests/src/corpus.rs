@@ -105,7 +105,7 @@ fn chosen() -> Vec<Record> {
 fn wanted(feature: &str) -> usize {
     match feature.split(' ').next() {
         Some("kind" | "tie" | "start") => 8,
-        Some("letters") => 4,
+        Some("letters" | "window,") => 4,
         _ => 1,
     }
 }
@@ -130,6 +130,7 @@ fn features(file: &Generated) -> Vec<String> {
     features.push(format!("kind {}", file.kind));
     features.extend(tally.sizes.keys().map(|size| format!("letters {size}")));
     features.extend(tally.sets.keys().filter(|set| set.len() <= 3).map(|set| format!("refused {set}")));
+    features.extend(tally.windows.keys().map(|what| format!("window, {what}")));
     for (what, count) in [("tie", tally.ties), ("start 0", tally.at_first), ("start T-d", tally.at_last)] {
         if count > 0 {
             features.push(what.to_string());

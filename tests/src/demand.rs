@@ -1,6 +1,6 @@
 // Demand 3 as assertions over a report and the tables of starts of the second formulation.
 
-use crate::plan::Plan;
+use crate::plan::{Activity, Plan, Window};
 use crate::second::{tables, warm_up_table, warmth, Interval};
 use crate::tally::Tally;
 
@@ -53,8 +53,7 @@ pub fn check_report(plan: &Plan, report: &[u8], tally: &mut Tally) -> Result<Vec
         let activity = &plan.activities[order[place]];
         ensure(activity.id == *id, || format!("place {place} has id {id}"))?;
         let tables = tables(plan, activity, &placed);
-        check_line(line, activity.duration, activity.preferred, &tables, tally)
-            .map_err(|said| format!("place {place}: {said}"))?;
+        check_line(line, activity, &tables, tally).map_err(|said| format!("place {place}: {said}"))?;
         if let Line::Placed(start, _) = line {
             placed.push(Interval::new(activity, *start));
         }
@@ -79,26 +78,20 @@ fn order(plan: &Plan) -> Vec<usize> {
     (0..count).map(|at| (0..count).find(|&i| place(i) == at).unwrap()).collect()
 }
 
-fn check_line(
-    line: &Line,
-    duration: i64,
-    preferred: i64,
-    tables: &[Vec<bool>],
-    tally: &mut Tally,
-) -> Result<(), String> {
+fn check_line(line: &Line, activity: &Activity, tables: &[Vec<bool>], tally: &mut Tally) -> Result<(), String> {
     let valid = in_common(tables, |_| true);
     match line {
         Line::Placed(start, end) => {
             ensure(valid.contains(start), || format!("start {start} isn't valid"))?;
-            ensure(*end == start + duration, || format!("end {end}"))?;
-            let rank = |s: i64| ((s - preferred).abs(), s);
-            for &other in &valid {
-                ensure(rank(*start) <= rank(other), || format!("start {other} comes before {start}"))?;
-            }
+            ensure(*end == start + activity.duration, || format!("end {end}"))?;
+            let ranks = ranks(activity, &valid);
+            ensure(ranks.len() == valid.len(), || "a valid start isn't in one window".to_string())?;
+            let &(distance, first) = ranks.iter().min().expect("a valid start");
+            ensure(first == *start, || format!("start {first} comes before {start}"))?;
             let last = tables[0].len() as i64 - 1;
-            let tie =
-                valid.iter().any(|other| other != start && (other - preferred).abs() == (start - preferred).abs());
+            let tie = ranks.iter().any(|other| other.0 == distance && other.1 != *start);
             tally.placed(*start, last, tie);
+            tally_windows(activity, *start, last, &valid, tally);
         }
         Line::Refused(letters) => {
             ensure(valid.is_empty(), || format!("refused, but {} is valid", valid[0]))?;
@@ -107,6 +100,49 @@ fn check_line(
         }
     }
     Ok(())
+}
+
+// Each valid start behind its distance, window by window: to the preferred tick of the window; of an activity without
+// windows, to its own. The least of these pairs is the start that is due.
+fn ranks(activity: &Activity, valid: &[i64]) -> Vec<(i64, i64)> {
+    let to = |preferred: i64| move |&start: &i64| ((start - preferred).abs(), start);
+    if activity.windows.is_empty() {
+        return valid.iter().map(to(activity.preferred)).collect();
+    }
+    let of = |w: &Window| valid.iter().filter(|&start| (w.from..=w.to).contains(start)).map(to(w.preferred)).collect();
+    activity.windows.iter().map(of).collect::<Vec<Vec<_>>>().concat()
+}
+
+// What a start in a window shows.
+fn tally_windows(activity: &Activity, start: i64, last: i64, valid: &[i64], tally: &mut Tally) {
+    let Some(own) = activity.windows.iter().rposition(|w| w.from <= start) else {
+        return;
+    };
+    let preferred = activity.windows[own].preferred;
+    let distance = (start - preferred).abs();
+    let distances = |w: &Window| -> Vec<i64> {
+        let starts = valid.iter().filter(|&s| (w.from..=w.to).contains(s));
+        starts.map(|s| (s - w.preferred).abs()).collect()
+    };
+    let by_window: Vec<Vec<i64>> = activity.windows.iter().map(distances).collect();
+    let least: Vec<Option<&i64>> = by_window.iter().map(|distances| distances.iter().min()).collect();
+    let tie = least[own + 1..].contains(&Some(&distance));
+    let by_field = valid.iter().map(|s| ((s - activity.preferred).abs(), *s)).min();
+    let to_any = |s: i64| activity.windows.iter().map(|w| (s - w.preferred).abs()).min();
+    let by_any = valid.iter().map(|s| (to_any(*s), *s)).min();
+    let shown = [
+        distance == 0,
+        distance > 0,
+        own > 0,
+        by_window[..own].iter().any(|distances| !distances.is_empty()),
+        tie && distance == 0,
+        tie && distance > 0,
+        by_window[own].iter().filter(|&other| *other == distance).count() > 1,
+        preferred > last,
+        by_field.is_some_and(|field| field.1 != start),
+        by_any.is_some_and(|any| any.1 != start),
+    ];
+    tally.in_window(shown);
 }
 
 // The starts that meet each chosen letter, letters by number.

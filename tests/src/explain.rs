@@ -14,17 +14,18 @@ pub fn explain(bytes: &[u8]) -> Vec<u8> {
     text.into_bytes()
 }
 
-// The words of refusals 1 to 9.
-const REFUSALS: [&str; 9] = [
-    "the file has more than 60000 bytes",
-    "the first word or the number of fields is wrong, or the line does not end in LF",
-    "a number or an item of a list is not written as it must be, or the field is empty",
-    "a number is out of its range",
-    "this is the 65th activity line, and a plan has at most 64",
-    "an earlier line has the same id",
-    "after names an id that no activity at an earlier place has",
-    "the list does not rise, a window ends before it begins, or there are too many items",
-    "with nothing placed, the charge at the horizon is under the handover charge",
+// The refusals that a file may draw, with their words.
+const REFUSALS: [(u32, &str); 10] = [
+    (1, "the file has more than 60000 bytes"),
+    (2, "the first word or the number of fields is wrong, or the line does not end in LF"),
+    (3, "a number or an item of a list is not written as it must be, or the field is empty"),
+    (4, "a number is out of its range"),
+    (5, "this is the 65th activity line, and a plan has at most 64"),
+    (6, "an earlier line has the same id"),
+    (7, "after names an id that no activity at an earlier place has"),
+    (8, "the list does not rise, a window ends before it begins, or there are too many items"),
+    (9, "with nothing placed, the charge at the horizon is under the handover charge"),
+    (13, "a preferred tick lies outside its window"),
 ];
 
 // What the first line must be, and its fields from 1 on.
@@ -50,7 +51,8 @@ const OTHER_LINE: [&str; 15] = [
     "priority, 0 to 65535",
     "duration, 1 to the horizon",
     "preferred tick, 0 to 4095",
-    "windows, - or up to 4 of the form a:b, 0 to 4095, each a at most its b and above the b before",
+    "windows, - or up to 4 of the form a:p:b, 0 to 4095, each a at most its b and above the b before, each p from its a to \
+     its b",
     "after, - or up to 8 ids, 0 to 65535, rising",
     "units, - or up to 32 numbers, 0 to 31, rising",
     "needs, - or up to 4 of the form v=k, v 0 to 7 and rising, k 0 to 255",
@@ -77,7 +79,8 @@ const CONDITIONS: [&str; 9] = [
 
 fn refused(bytes: &[u8], refusal: Refusal) -> String {
     let Refusal { number, line } = refusal;
-    let said = format!("refused {number} at line {line}: {}\n", REFUSALS[number as usize - 1]);
+    let (_, words) = REFUSALS.iter().find(|words| words.0 == number).expect("a refusal of a file");
+    let said = format!("refused {number} at line {line}: {words}\n");
     if line == 0 {
         return said;
     }
@@ -122,7 +125,7 @@ fn shown(bytes: &[u8]) -> String {
 // The field that draws a refusal, if it is one of a field.
 fn field_of(bytes: &[u8], refusal: Refusal) -> Option<usize> {
     match refusal.number {
-        3 | 4 | 8 => Some(first_wrong(bytes, refusal)),
+        3 | 4 | 8 | 13 => Some(first_wrong(bytes, refusal)),
         6 => Some(1),
         7 => Some(6),
         _ => None,
@@ -164,7 +167,7 @@ fn first_line_draws(fields: &[&[u8]], field: usize) -> Option<u32> {
     number(fields[field], low, high).err()
 }
 
-// The same of another line: 3, 4, 8 or nothing.
+// The same of another line: 3, 4, 8, 13 or nothing.
 fn other_line_draws(fields: &[&[u8]], field: usize, horizon: i64) -> Option<u32> {
     let text = fields[field];
     match field {

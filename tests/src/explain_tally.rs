@@ -118,6 +118,7 @@ fn drawn() -> Vec<(bool, u32, usize)> {
         drawn.extend((2..=15).map(|field| (false, number, field)));
     }
     drawn.extend((6..=10).map(|field| (false, 8, field)));
+    drawn.push((false, 13, 6));
     drawn
 }
 

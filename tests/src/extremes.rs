@@ -1,8 +1,8 @@
 // Plans with numbers from the ends of their ranges.
 
-use crate::generator::{arrange, windows};
+use crate::generator::{arrange, window, windows};
 use crate::knots::idle;
-use crate::plan::{Activity, Plan};
+use crate::plan::{Activity, Plan, Window};
 use crate::random::Random;
 
 pub fn plan(random: &mut Random) -> Plan {
@@ -65,7 +65,9 @@ pub fn longest(random: &mut Random) -> Plan {
 fn full_lists(random: &mut Random, place: i64, horizon: i64) -> Activity {
     let mut activity = idle(random.range(1, 2));
     activity.preferred = random.range(0, 2 * place);
-    activity.windows = vec![(0, horizon - 1), (1_000, 1_000), (1_001, 2_000), (4_094, 4_095)];
+    let first = Window { from: 0, preferred: activity.preferred.min(horizon - 1), to: horizon - 1 };
+    let others = [(1_000, 1_000), (1_001, 2_000), (4_094, 4_095)].map(|(from, to)| window(random, from, to));
+    activity.windows = [&[first], &others[..]].concat();
     activity.after = random.rising(8, 0, place.max(1) - 1);
     if place == 0 {
         activity.after.clear();
@@ -87,9 +89,9 @@ fn activity(random: &mut Random, horizon: i64, place: i64) -> Activity {
     activity.preferred = *random.pick(&[0, 1, horizon - 1, 4_095]);
     activity.windows = match random.range(0, 5) {
         0 => windows(random, horizon),
-        1 => vec![(0, 0), (1, 1), (3, 3), (4_095, 4_095)],
-        2 => vec![(4_095, 4_095)],
-        3 => vec![(0, 4_095)],
+        1 => [0, 1, 3, 4_095].map(|tick| window(random, tick, tick)).to_vec(),
+        2 => vec![window(random, 4_095, 4_095)],
+        3 => vec![Window { from: 0, preferred: *random.pick(&[0, 1, horizon - 1, 4_095]), to: 4_095 }],
         _ => Vec::new(),
     };
     if random.chance(30) {

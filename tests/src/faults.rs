@@ -95,7 +95,7 @@ fn value(text: &str) -> i64 {
     }
 }
 
-// What a field may hold: one number, or a list of items with one or two numbers each.
+// What a field may hold: one number, or a list of items with one to three numbers each.
 struct Form {
     low: i64,
     high: Vec<i64>,
@@ -129,7 +129,7 @@ fn activity_form(first: &[&str], field: usize) -> Form {
         1 | 2 => single(0, 65_535),
         3 => single(1, first.get(1).map_or(0, |text| value(text))),
         4 => single(0, 4_095),
-        5 => list(&[4_095, 4_095], ':', 4),
+        5 => list(&[4_095; 3], ':', 4),
         6 => list(&[65_535], ' ', 8),
         7 => list(&[31], ' ', 32),
         8 | 9 => list(&[7, 255], '=', 4),
@@ -164,13 +164,17 @@ impl Form {
         if self.most.is_some_and(|most| items.len() > most) || !self.rises(&numbers) {
             faults.push(8);
         }
+        let outside = |item: &Vec<i64>| matches!(item[..], [a, p, b] if p < a || b < p);
+        if self.between == ':' && numbers.iter().any(outside) {
+            faults.push(13);
+        }
         faults
     }
 
     // Ids, units and variables rise strictly; the bounds of windows rise, strictly from one window to the next.
     fn rises(&self, numbers: &[Vec<i64>]) -> bool {
-        let own = |item: &Vec<i64>| self.between != ':' || item.len() != 2 || item[0] <= item[1];
         let last = |item: &Vec<i64>| if self.between == ':' { item[item.len() - 1] } else { item[0] };
+        let own = |item: &Vec<i64>| item[0] <= last(item);
         numbers.iter().all(own) && (1..numbers.len()).all(|i| last(&numbers[i - 1]) < numbers[i][0])
     }
 }

@@ -1,7 +1,7 @@
 // Plans of full size, 64 activities over 4,096 ticks, of several kinds: what a planner is slow at.
 
 use crate::knots::{fixed, idle};
-use crate::plan::{Activity, Plan};
+use crate::plan::{Activity, Plan, Window};
 use crate::random::Random;
 
 // The kinds, each with what it is.
@@ -82,8 +82,13 @@ fn state(activity: Activity) -> Activity {
 }
 
 fn windows(place: i64) -> Activity {
-    let from = 8 * place;
-    Activity { windows: (0..4).map(|w| (from + 1_000 * w, from + 1_000 * w + 30)).collect(), ..short(place) }
+    let bounds = [0, 1, 2, 3].map(|w| (8 * place + 1_000 * w, 8 * place + 1_000 * w + 30));
+    Activity { windows: near(64 * place, &bounds), ..short(place) }
+}
+
+// Windows whose preferred tick is the activity's own, or the bound that is nearest to it.
+fn near(preferred: i64, bounds: &[(i64, i64)]) -> Vec<Window> {
+    bounds.iter().map(|&(from, to)| Window { from, preferred: preferred.clamp(from, to), to }).collect()
 }
 
 fn battery() -> Plan {
@@ -113,7 +118,7 @@ fn refusals() -> Plan {
     ];
     activities.extend((9..24).map(short));
     activities.extend((24..64).map(|place| Activity {
-        windows: vec![(0, 3_583)],
+        windows: near(64 * place, &[(0, 3_583)]),
         after: vec![0],
         units: vec![5],
         needs: vec![(2, 0)],
@@ -141,18 +146,22 @@ fn ordinary() -> Plan {
         heater: 40,
         ..amply()
     };
-    all(station, |i| Activity {
-        preferred: random.range(0, 4_000),
-        windows: if random.chance(30) { vec![(500, 1_500), (2_500, 3_900)] } else { Vec::new() },
-        after: if i > 0 && random.chance(20) { vec![random.range(0, i - 1)] } else { Vec::new() },
-        units: random.rising(2, 0, 7),
-        needs: random.pick(&[vec![], vec![], vec![(0, 0)], vec![(1, 2)]]).clone(),
-        sets: random.pick(&[vec![], vec![(0, 1)], vec![(1, 2)]]).clone(),
-        engines: random.range(0, 2),
-        peak: random.range(0, 90),
-        draw: random.range(0, 90),
-        volume: random.range(0, 120),
-        warm: random.range(0, 1),
-        ..idle(random.range(5, 120))
+    all(station, |i| {
+        let preferred = random.range(0, 4_000);
+        let bounds: &[(i64, i64)] = if random.chance(30) { &[(500, 1_500), (2_500, 3_900)] } else { &[] };
+        Activity {
+            preferred,
+            windows: near(preferred, bounds),
+            after: if i > 0 && random.chance(20) { vec![random.range(0, i - 1)] } else { Vec::new() },
+            units: random.rising(2, 0, 7),
+            needs: random.pick(&[vec![], vec![], vec![(0, 0)], vec![(1, 2)]]).clone(),
+            sets: random.pick(&[vec![], vec![(0, 1)], vec![(1, 2)]]).clone(),
+            engines: random.range(0, 2),
+            peak: random.range(0, 90),
+            draw: random.range(0, 90),
+            volume: random.range(0, 120),
+            warm: random.range(0, 1),
+            ..idle(random.range(5, 120))
+        }
     })
 }

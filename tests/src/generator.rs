@@ -4,7 +4,7 @@ use crate::cases::{cases, tabs, EXAMPLE};
 use crate::damage;
 use crate::extremes;
 use crate::knots;
-use crate::plan::{Activity, Plan};
+use crate::plan::{Activity, Plan, Window};
 use crate::random::Random;
 use crate::reading::{read, Refusal};
 
@@ -217,7 +217,7 @@ fn fill(random: &mut Random, shape: &Shape) -> Plan {
     let mut activities: Vec<Activity> =
         (0..count as usize).map(|place| activity(random, shape, horizon, place)).collect();
     if random.chance(35) {
-        crowd(random, &mut activities);
+        crowd(random, &mut activities, horizon);
     }
     let mut plan = Plan {
         horizon,
@@ -266,23 +266,29 @@ fn activity(random: &mut Random, shape: &Shape, horizon: i64, place: usize) -> A
     }
 }
 
-// Most activities want the first one's unit for as long and around the same tick, so that two starts are equally near.
-fn crowd(random: &mut Random, activities: &mut [Activity]) {
+// Most activities want the first one's unit for as long and around the same tick, or in the same windows, so that two
+// starts are equally near.
+fn crowd(random: &mut Random, activities: &mut [Activity], horizon: i64) {
     let Some(first) = activities.first().cloned() else {
         return;
+    };
+    let shared = match random.range(0, 9) {
+        0..=1 => windows(random, horizon),
+        2..=5 => touching(random, horizon),
+        _ => Vec::new(),
     };
     for activity in activities.iter_mut() {
         if random.chance(75) {
             activity.duration = first.duration;
             activity.preferred = first.preferred;
             activity.units = vec![1];
-            activity.windows.clear();
+            activity.windows = shared.clone();
         }
     }
 }
 
 // One to four windows.
-pub fn windows(random: &mut Random, horizon: i64) -> Vec<(i64, i64)> {
+pub fn windows(random: &mut Random, horizon: i64) -> Vec<Window> {
     let mut windows = Vec::new();
     let mut free = 0;
     for _ in 0..*random.pick(&[1, 1, 1, 2, 2, 3, 4]) {
@@ -291,10 +297,33 @@ pub fn windows(random: &mut Random, horizon: i64) -> Vec<(i64, i64)> {
         if b > 4_095 {
             break;
         }
-        windows.push((a, b));
+        windows.push(window(random, a, b));
         free = b + 1;
     }
     windows
+}
+
+// Up to four windows, each beginning right behind the one before, with their preferred ticks at ends or midway: there
+// starts are as near in one window, and one may be nearer to the preferred tick of another window.
+fn touching(random: &mut Random, horizon: i64) -> Vec<Window> {
+    let mut windows = Vec::new();
+    let mut from = random.range(0, horizon / 6);
+    let count = random.range(1, 4);
+    for _ in 0..count {
+        let to = from + random.range(horizon / (2 * count), horizon / count);
+        if to > 4_095 {
+            break;
+        }
+        windows.push(Window { from, preferred: *random.pick(&[from, to, (from + to) / 2]), to });
+        from = to + 1;
+    }
+    windows
+}
+
+// A window with its preferred tick at one end, at the other, or between them.
+pub fn window(random: &mut Random, from: i64, to: i64) -> Window {
+    let between = random.range(from, to);
+    Window { from, preferred: *random.pick(&[from, to, between, between]), to }
 }
 
 // One to three earlier places, the last one among them in a chain.

@@ -1,7 +1,7 @@
 // Plans in which each of several conditions bars a stretch of its own, so that a refusal names them all.
 
-use crate::generator::arrange;
-use crate::plan::{Activity, Plan};
+use crate::generator::{arrange, window};
+use crate::plan::{Activity, Plan, Window};
 use crate::random::Random;
 
 const RATE: i64 = 50;
@@ -107,9 +107,9 @@ impl Knot {
         let horizon = (self.cursor + self.candidate.duration - 1).max(self.candidate.duration);
         let mut activities = self.barring;
         let mut candidate = self.candidate;
-        candidate.windows = around(&self.outside, horizon);
         for again in 0..random.range(1, 3) {
             candidate.preferred = random.range(0, horizon - 1);
+            candidate.windows = around(random, &self.outside, horizon);
             activities.push(if again == 0 { candidate.clone() } else { eased(random, &candidate) });
         }
         let mut plan = Plan {
@@ -156,23 +156,24 @@ pub fn idle(duration: i64) -> Activity {
 
 // An activity with one start in its window.
 pub fn fixed(start: i64, duration: i64) -> Activity {
-    Activity { preferred: start, windows: vec![(start, start)], ..idle(duration) }
+    let only = Window { from: start, preferred: start, to: start };
+    Activity { preferred: start, windows: vec![only], ..idle(duration) }
 }
 
 // Windows that leave the given stretches out.
-fn around(outside: &[(i64, i64)], horizon: i64) -> Vec<(i64, i64)> {
+fn around(random: &mut Random, outside: &[(i64, i64)], horizon: i64) -> Vec<Window> {
     let mut windows = Vec::new();
     let mut free = 0;
     for &(first, end) in outside {
         if free < first {
-            windows.push((free, first - 1));
+            windows.push(window(random, free, first - 1));
         }
         free = end;
     }
     if outside.is_empty() {
         return windows;
     }
-    windows.push((free, free.max(horizon)));
+    windows.push(window(random, free, free.max(horizon)));
     windows
 }
 

@@ -1,4 +1,4 @@
-// A scheduler written from document 01 alone, plans to run it on, and the checks of it.
+// A scheduler written from documents 01 and 02 alone, plans to run it on, and the checks of it.
 
 // The scheduler.
 pub mod calls;

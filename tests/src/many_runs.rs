@@ -14,14 +14,14 @@ pub fn many_runs(short: usize) -> Generated {
 
 // The same, but the last activity has a window where the first one holds the unit: it is refused.
 pub fn many_runs_refused(short: usize) -> Generated {
-    file(format!("many runs refused {short}"), short, "1:1")
+    file(format!("many runs refused {short}"), short, "1:1:1")
 }
 
 fn file(name: String, short: usize, windows: &str) -> Generated {
     let mut text = format!("plan\t{}\t0\t100\t0\t100\t0\t0\t64\t1000\t1000\t0\n", 2 * short + 2);
     for place in 0..short {
         let tick = 2 * place + 1;
-        text += &activity(place, &format!("{tick}:{tick}"));
+        text += &activity(place, &format!("{tick}:{tick}:{tick}"));
     }
     text += &activity(short, windows);
     Generated { name, kind: KIND, bytes: text.into_bytes(), aimed: None }

@@ -31,7 +31,7 @@ pub fn schedule(plan: &Plan, count: usize) -> Schedule<'_> {
     for i in plan.order().into_iter().take(count) {
         let activity = &plan.activities[i];
         let tables = tables(plan, activity, &schedule.placed);
-        let outcome = decide(&tables, activity.preferred);
+        let outcome = decide(&tables, activity);
         if let Outcome::Placed(start) = outcome {
             schedule.placed.push(Placed { activity, start });
         }
@@ -46,11 +46,17 @@ pub fn meeting(tables: &[Vec<bool>], set: u32) -> Vec<bool> {
     (0..tables[0].len()).map(meets).collect()
 }
 
-fn decide(tables: &[Vec<bool>], preferred: i64) -> Outcome {
+// How far a start is from the preferred tick of the window that holds it; without windows, from the activity's own.
+fn distance(activity: &Activity, start: i64) -> i64 {
+    let holding = activity.windows.iter().find(|w| w.from <= start && start <= w.to);
+    (start - holding.map_or(activity.preferred, |w| w.preferred)).abs()
+}
+
+fn decide(tables: &[Vec<bool>], activity: &Activity) -> Outcome {
     let valid = meeting(tables, ALL);
     let mut nearest: Option<i64> = None;
     for start in 0..valid.len() as i64 {
-        let nearer = nearest.is_none_or(|best| (start - preferred).abs() < (best - preferred).abs());
+        let nearer = nearest.is_none_or(|best| distance(activity, start) < distance(activity, best));
         if valid[start as usize] && nearer {
             nearest = Some(start);
         }

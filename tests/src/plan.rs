@@ -23,7 +23,7 @@ pub struct Activity {
     pub priority: i64,
     pub duration: i64,
     pub preferred: i64,
-    pub windows: Vec<(i64, i64)>,
+    pub windows: Vec<Window>,
     pub after: Vec<i64>,
     pub units: Vec<i64>,
     pub needs: Vec<(i64, i64)>,
@@ -33,6 +33,14 @@ pub struct Activity {
     pub draw: i64,
     pub volume: i64,
     pub warm: i64,
+}
+
+// The starts `from` to `to`, of which `preferred` is wanted most.
+#[derive(Clone, Copy, Debug, PartialEq)]
+pub struct Window {
+    pub from: i64,
+    pub preferred: i64,
+    pub to: i64,
 }
 
 impl Plan {
@@ -83,7 +91,7 @@ impl Activity {
             self.priority.to_string(),
             self.duration.to_string(),
             self.preferred.to_string(),
-            list(&self.windows, |w| format!("{}:{}", w.0, w.1)),
+            list(&self.windows, |w| format!("{}:{}:{}", w.from, w.preferred, w.to)),
             list(&self.after, |id| id.to_string()),
             list(&self.units, |unit| unit.to_string()),
             list(&self.needs, |need| format!("{}={}", need.0, need.1)),

@@ -1,6 +1,6 @@
-// Reading a plan file: the plan, or the first refusal in document 01's order of checks.
+// Reading a plan file: the plan, or the first refusal in the order of checks of documents 01 and 02.
 
-use crate::plan::{Activity, Plan};
+use crate::plan::{Activity, Plan, Window};
 
 // A refusal number and the line it is about.
 #[derive(Clone, Copy, Debug, PartialEq)]
@@ -29,7 +29,7 @@ pub fn read(bytes: &[u8]) -> Result<Plan, Refusal> {
     Ok(plan)
 }
 
-// Refusals 2 to 6 and 8, line by line.
+// Refusals 2 to 6, 8 and 13, line by line.
 fn read_lines(bytes: &[u8]) -> Result<Plan, Refusal> {
     let (fields, mut rest) = split_line(bytes, b"plan", 12, 1)?;
     let mut plan = read_first(&fields).or_else(|number| refuse(number, 1))?;
@@ -107,15 +107,18 @@ fn read_activity(fields: &[&[u8]], horizon: i64) -> Result<Activity, u32> {
     })
 }
 
-// Up to 4 windows, each `a:b`, each beginning after the last one's end.
-pub fn windows(field: &[u8]) -> Result<Vec<(i64, i64)>, u32> {
-    let list = items(field, |item| pair(item, b':'))?;
-    if list.iter().any(|&(a, b)| a > 4_095 || b > 4_095) {
+// Up to 4 windows, each `a:p:b`, each beginning after the last one's end, and each p from its a to its b.
+pub fn windows(field: &[u8]) -> Result<Vec<Window>, u32> {
+    let list = items(field, window)?;
+    if list.iter().any(|w| w.from > 4_095 || w.preferred > 4_095 || w.to > 4_095) {
         return Err(4);
     }
-    let rising = list.windows(2).all(|two| two[0].1 < two[1].0);
-    if list.len() > 4 || !rising || list.iter().any(|&(a, b)| a > b) {
+    let rising = list.windows(2).all(|two| two[0].to < two[1].from);
+    if list.len() > 4 || !rising || list.iter().any(|w| w.from > w.to) {
         return Err(8);
+    }
+    if list.iter().any(|w| w.preferred < w.from || w.preferred > w.to) {
+        return Err(13);
     }
     Ok(list)
 }
@@ -134,7 +137,7 @@ pub fn numbers(field: &[u8], high: i64, most: usize) -> Result<Vec<i64>, u32> {
 
 // Up to 4 `v=k`, the variables rising.
 pub fn values(field: &[u8]) -> Result<Vec<(i64, i64)>, u32> {
-    let list = items(field, |item| pair(item, b'='))?;
+    let list = items(field, value)?;
     if list.iter().any(|&(v, k)| v > 7 || k > 255) {
         return Err(4);
     }
@@ -161,13 +164,20 @@ fn items<T>(field: &[u8], item: impl Fn(&[u8]) -> Option<T>) -> Result<Vec<T>, u
     field.split(|&b| b == b',').map(|text| item(text).ok_or(3)).collect()
 }
 
-// Two numbers with one byte between them.
-fn pair(item: &[u8], between: u8) -> Option<(i64, i64)> {
-    let parts: Vec<&[u8]> = item.split(|&b| b == between).collect();
-    if parts.len() != 2 {
-        return None;
-    }
-    Some((digits(parts[0])?, digits(parts[1])?))
+fn window(item: &[u8]) -> Option<Window> {
+    let [from, preferred, to] = parts(item, b':')?;
+    Some(Window { from, preferred, to })
+}
+
+fn value(item: &[u8]) -> Option<(i64, i64)> {
+    let [variable, value] = parts(item, b'=')?;
+    Some((variable, value))
+}
+
+// So many numbers with one byte between each two.
+fn parts<const COUNT: usize>(item: &[u8], between: u8) -> Option<[i64; COUNT]> {
+    let numbers: Option<Vec<i64>> = item.split(|&b| b == between).map(digits).collect();
+    numbers?.try_into().ok()
 }
 
 // A number: 1 to 10 digits, no leading zero unless it is 0.

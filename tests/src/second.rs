@@ -38,8 +38,8 @@ pub fn tables(plan: &Plan, candidate: &Activity, placed: &[Interval]) -> Vec<Vec
         tables[8][s] = start - warmth(plan, own, &warm_up) >= 0;
     }
     for s in 0..count as i64 {
-        let opens = candidate.windows.iter().filter(|w| w.0 <= s).count();
-        let closed = candidate.windows.iter().filter(|w| w.1 < s).count();
+        let opens = candidate.windows.iter().filter(|w| w.from <= s).count();
+        let closed = candidate.windows.iter().filter(|w| w.to < s).count();
         tables[0][s as usize] = candidate.windows.is_empty() || opens > closed;
     }
     tables

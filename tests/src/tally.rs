@@ -3,6 +3,10 @@
 use std::collections::BTreeMap;
 use std::fmt;
 
+// The refusals that a file draws, and those of a call.
+pub const OF_FILES: [u32; 10] = [1, 2, 3, 4, 5, 6, 7, 8, 9, 13];
+pub const OF_CALLS: [u32; 3] = [10, 11, 12];
+
 #[derive(Default)]
 pub struct Tally {
     pub kinds: BTreeMap<&'static str, u64>,
@@ -18,7 +22,22 @@ pub struct Tally {
     pub at_last: u64,
     pub starts: u64,
     pub lowest: BTreeMap<&'static str, u64>,
+    pub windows: BTreeMap<&'static str, u64>,
 }
+
+// What a start in a window shows.
+const WINDOWS: [&str; 10] = [
+    "at its window's p",
+    "beside its window's p",
+    "in a later window than the first",
+    "in a later window than one with a valid start",
+    "at the p of the earlier of two windows",
+    "as near in the earlier of two windows",
+    "at the earlier of two as near in one window",
+    "with its window's p behind the last start",
+    "where the preferred field would give another start",
+    "where the nearest p of all windows would give another start",
+];
 
 // Where the lowest charge of a plan is, and that a later tick has it, too.
 const LOWEST: [&str; 4] = ["at tick 0", "in between", "at T", "again later"];
@@ -37,6 +56,13 @@ impl Tally {
         self.ties += tie as u64;
         self.at_first += (start == 0) as u64;
         self.at_last += (start == last) as u64;
+    }
+
+    // What a start in a window shows, in the order of the names.
+    pub fn in_window(&mut self, shown: [bool; WINDOWS.len()]) {
+        for (what, _) in WINDOWS.iter().zip(shown).filter(|shown| shown.1) {
+            *self.windows.entry(what).or_default() += 1;
+        }
     }
 
     pub fn refused(&mut self, letters: &str) {
@@ -82,7 +108,7 @@ impl Tally {
     // What never turned up although it must.
     pub fn missing(&self) -> Vec<String> {
         let mut missing = self.missing_printed();
-        for number in 10..=12 {
+        for number in OF_CALLS {
             if !self.numbers.contains_key(&number) {
                 missing.push(format!("refusal {number}"));
             }
@@ -94,13 +120,15 @@ impl Tally {
         }
         let never = LOWEST.iter().filter(|place| !self.lowest.contains_key(*place));
         missing.extend(never.map(|place| format!("lowest charge {place}")));
+        let never = WINDOWS.iter().filter(|what| !self.windows.contains_key(*what));
+        missing.extend(never.map(|what| format!("a start {what}")));
         missing
     }
 
     // The same of what a program prints.
     pub fn missing_printed(&self) -> Vec<String> {
         let mut missing = Vec::new();
-        for number in 1..=9 {
+        for number in OF_FILES {
             if !self.numbers.contains_key(&number) {
                 missing.push(format!("refusal {number}"));
             }
@@ -120,7 +148,7 @@ impl Tally {
 
     // The lines of the tally that are of what a program prints.
     pub fn of_printed(&self) -> String {
-        let files: BTreeMap<_, _> = self.numbers.iter().filter(|&(&number, _)| number < 10).collect();
+        let files: BTreeMap<_, _> = self.numbers.iter().filter(|&(number, _)| OF_FILES.contains(number)).collect();
         let lines = [
             format!("  files        {}: {}", self.kinds.values().sum::<u64>(), row(&self.kinds)),
             format!("  accepted     {}", self.accepted),
@@ -141,13 +169,14 @@ pub fn row<K: fmt::Display, N: fmt::Display>(counts: &BTreeMap<K, N>) -> String 
 
 impl fmt::Display for Tally {
     fn fmt(&self, out: &mut fmt::Formatter) -> fmt::Result {
-        let calls: BTreeMap<_, _> = self.numbers.iter().filter(|&(&number, _)| number >= 10).collect();
+        let calls: BTreeMap<_, _> = self.numbers.iter().filter(|&(number, _)| OF_CALLS.contains(number)).collect();
         writeln!(out, "{}", self.of_printed())?;
         writeln!(
             out,
             "  placed where {} at start 0, {} at T-d, {} at the earlier of two equally near",
             self.at_first, self.at_last, self.ties
         )?;
+        writeln!(out, "  in windows   {}", row(&self.windows))?;
         writeln!(out, "  lowest c     {}", row(&self.lowest))?;
         writeln!(out, "  no, calls    {}", row(&calls))?;
         write!(out, "  starts       {} lists of runs", self.starts)

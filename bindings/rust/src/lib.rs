@@ -1,25 +1,32 @@
 //! The planner of the seabed stations, proved in Rattle, as safe Rust.
 //!
-//! The calls are those of document 01, over a plan file's bytes. A start is a tick, a minute counted from the plan's
-//! beginning. An activity is named by its place: its position in the scheduling order, from 0. That order is by priority,
-//! the lowest number first, and of equal priorities by line; so a place is neither an id nor a line number. Line k of the
-//! report, counted from 0, is the line of place k, and begins with the activity's id: [`place_of`] looks an id up there.
+//! The calls are those of document 01, with the requests of document 02 that have landed, over a plan file's bytes. A
+//! start is a tick, a minute counted from the plan's beginning. An activity is named by its place: its position in the
+//! scheduling order, from 0. That order is by priority, the lowest number first, and of equal priorities by line; so a
+//! place is neither an id nor a line number. Line k of the report, counted from 0, is the line of place k, and begins with
+//! the activity's id: [`place_of`] looks an id up there.
+//!
+//! Since version 3 a window is `a:p:b`: its first start, its preferred tick and its last start. An activity with windows
+//! is placed as near as can be to the p of the window that holds its start; the preferred tick of its line counts only
+//! where it has none. A window `a:b`, as before, is malformed.
 //!
 //! ```
 //! use bovkact_planner::{outcome, place_of, report, starts, version, Conditions, Outcome, REPORT_MOST, VERSION};
 //!
 //! assert_eq!(version(), VERSION);
 //!
-//! // 20 ticks; activity 5 takes 4 of them, wants to start at 10, and may start from 0 to 3 and from 12 to 20.
+//! // 20 ticks, and activity 4 has unit 0 in the first two. Activity 5 needs it for 4 ticks; it may start from 0 to 3,
+//! // preferred 0, or from 12 to 20, preferred 14.
 //! let plan = b"plan\t20\t840\t100\t20\t40\t1\t0\t1\t10\t50\t1\n\
-//!              act\t5\t1\t4\t10\t0:3,12:20\t-\t-\t-\t-\t0\t0\t0\t0\t0\n";
+//!              act\t4\t1\t2\t0\t-\t-\t0\t-\t-\t0\t0\t0\t0\t0\n\
+//!              act\t5\t2\t4\t0\t0:0:3,12:14:20\t-\t0\t-\t-\t0\t0\t0\t0\t0\n";
 //!
-//! assert_eq!(outcome(plan, 0)?, Outcome::Placed { start: 12 });
-//! assert_eq!(starts(plan, 0, Conditions::ALL)?, [0..=3, 12..=16]);
+//! assert_eq!(outcome(plan, 1)?, Outcome::Placed { start: 14 });
+//! assert_eq!(starts(plan, 1, Conditions::ALL)?, [2..=3, 12..=16]);
 //! let mut room = [0; REPORT_MOST];
 //! let text = report(plan, &mut room)?;
-//! assert_eq!(text, b"5\tplaced\t12\t16\nend\t1\t0\t60\t0\t40\t0\n");
-//! assert_eq!(place_of(text, 5), Some(0));
+//! assert_eq!(text, b"4\tplaced\t0\t2\n5\tplaced\t14\t18\nend\t2\t0\t60\t0\t40\t0\n");
+//! assert_eq!(place_of(text, 5), Some(1));
 //! # Ok::<(), bovkact_planner::Refusal>(())
 //! ```
 //!
@@ -50,7 +57,7 @@
 //!   library's code touches each page of its stack in turn and so meets the guard page.
 //!
 //! No memory is trusted to an answer: the front of a slice is taken by an index that Rust checks. A refusal's number
-//! over 12, or a length beyond the slice, panics. Neither can come from the proved library, only from another one
+//! over 13, or a length beyond the slice, panics. Neither can come from the proved library, only from another one
 //! linked in its place.
 
 #![no_std]
@@ -76,7 +83,7 @@ use core::ops::RangeInclusive;
 compile_error!("libstation.a is for x86-64, with Linux or without an operating system");
 
 /// The version of the library that this crate is for; [`version`] gives that of the one linked.
-pub const VERSION: u32 = 2;
+pub const VERSION: u32 = 3;
 
 /// The most bytes of a plan; a longer one is refused.
 pub const PLAN_MOST: usize = 60_000;
@@ -163,7 +170,7 @@ fn value(answer: u64) -> Result<u32, Refusal> {
         0 => Ok(value),
         number => {
             let Some(reason) = Reason::numbered(number) else {
-                panic!("document 01 has no refusal {number}: libstation.a isn't the planner");
+                panic!("there is no refusal {number}: libstation.a isn't the planner");
             };
             Err(Refusal { reason, line: value })
         }
@@ -304,7 +311,7 @@ mod tests {
 
     #[test]
     fn every_number_has_its_reason() {
-        for number in 1..=12 {
+        for number in 1..=13 {
             let refusal = value((number as u64) << 32 | 0xffff_ffff).unwrap_err();
             assert_eq!((refusal.reason.number(), refusal.line), (number, u32::MAX));
         }
@@ -323,9 +330,9 @@ mod tests {
     }
 
     #[test]
-    #[should_panic(expected = "no refusal 13")]
-    fn number_13_panics() {
-        let _ = value(13 << 32);
+    #[should_panic(expected = "no refusal 14")]
+    fn number_14_panics() {
+        let _ = value(14 << 32);
     }
 
     #[test]

@@ -1,11 +1,11 @@
-// The refusals of document 01, "When the planner says no".
+// The refusals of document 01, "When the planner says no", and those that document 02 adds.
 
 use core::error::Error;
 use core::fmt::{Display, Formatter, Result};
 
-/// Why a call is refused, with document 01's numbers.
+/// Why a call is refused, with the numbers of the documents.
 ///
-/// With 1 to 9 the plan itself is refused, by every call alike; 10 to 12 are of the call.
+/// With 1 to 9 and 13 the plan itself is refused, by every call alike; 10 to 12 are of the call.
 ///
 /// ```
 /// use bovkact_planner::Reason;
@@ -40,11 +40,13 @@ pub enum Reason {
     NoSuchPlace = 11,
     /// Set over 511; line 0.
     SetTooLarge = 12,
+    /// Preferred tick outside its window.
+    OutOfWindow = 13,
 }
 
 impl Reason {
-    /// The twelve reasons by number, from 1.
-    pub const ALL: [Reason; 12] = [
+    /// The thirteen reasons by number, from 1.
+    pub const ALL: [Reason; 13] = [
         Reason::PlanTooLong,
         Reason::LineWrong,
         Reason::Malformed,
@@ -57,9 +59,10 @@ impl Reason {
         Reason::SliceTooShort,
         Reason::NoSuchPlace,
         Reason::SetTooLarge,
+        Reason::OutOfWindow,
     ];
 
-    /// Its number, 1 to 12.
+    /// Its number, 1 to 13.
     pub const fn number(self) -> u8 {
         self as u8
     }
@@ -85,11 +88,12 @@ impl Display for Reason {
             Reason::SliceTooShort => "lent slice too short for the answer",
             Reason::NoSuchPlace => "place not below the activity count",
             Reason::SetTooLarge => "set over 511",
+            Reason::OutOfWindow => "preferred tick outside its window",
         })
     }
 }
 
-/// The refusal of a call: the first in document 01's order of checks. The call has written nothing.
+/// The refusal of a call: the first in the documents' order of checks. The call has written nothing.
 ///
 /// ```
 /// use bovkact_planner::{outcome, Reason, Refusal};

@@ -1,5 +1,5 @@
-// The calls on document 01's worked plan, its table of refusals, every condition, the greatest numbers, slices of every
-// length, and several threads at once.
+// The calls on document 01's worked plan, its table of refusals, every condition, the preferred ticks of windows, the
+// greatest numbers, slices of every length, and several threads at once.
 
 use bovkact_planner::*;
 use std::fs;
@@ -30,7 +30,7 @@ fn many(count: usize) -> String {
     (1..=count).fold(p(), |plan, id| plan + &changed(2, 1, &id.to_string()))
 }
 
-// The plans of document 01's table of refusals.
+// The plans of document 01's table of refusals, and one of 13 (document 02, [2]).
 fn refused_plans() -> Vec<(String, Reason, u32)> {
     vec![
         ("a".repeat(PLAN_MOST + 1), Reason::PlanTooLong, 0),
@@ -40,8 +40,9 @@ fn refused_plans() -> Vec<(String, Reason, u32)> {
         (many(ACTIVITIES_MOST + 1), Reason::TooManyActivities, 66),
         (p() + &a() + &a(), Reason::IdRepeated, 3),
         (p() + &changed(2, 6, "7"), Reason::AfterNotEarlier, 2),
-        (p() + &changed(2, 5, "9:8"), Reason::ListWrong, 2),
+        (p() + &changed(2, 5, "9:9:8"), Reason::ListWrong, 2),
         (changed(1, 7, "61"), Reason::HandoverUnmet, 0),
+        (p() + &changed(2, 5, "3:2:8"), Reason::OutOfWindow, 2),
     ]
 }
 
@@ -77,7 +78,7 @@ fn starts_of_the_worked_plan() {
 #[test]
 fn plans_refused() {
     let reasons: Vec<Reason> = refused_plans().iter().map(|refused| refused.1).collect();
-    assert_eq!(reasons, Reason::ALL[..9]);
+    assert_eq!(reasons, [&Reason::ALL[..9], &[Reason::OutOfWindow]].concat());
     for (plan, reason, line) in refused_plans() {
         let plan = plan.as_bytes();
         let refusal = Refusal { reason, line };
@@ -218,7 +219,7 @@ fn places_of_ids() {
 // Behind one that has unit 0 in every tick, nine activities that are refused with one condition each, W to H.
 const NINE_REFUSED: &str = "\
 act\t0\t0\t20\t0\t-\t-\t0\t-\t-\t0\t0\t0\t0\t0
-act\t1\t1\t1\t0\t20:20\t-\t-\t-\t-\t0\t0\t0\t0\t0
+act\t1\t1\t1\t0\t20:20:20\t-\t-\t-\t-\t0\t0\t0\t0\t0
 act\t2\t1\t1\t0\t-\t1\t-\t-\t-\t0\t0\t0\t0\t0
 act\t3\t1\t1\t0\t-\t-\t0\t-\t-\t0\t0\t0\t0\t0
 act\t4\t1\t1\t0\t-\t-\t-\t1=3\t-\t0\t0\t0\t0\t0
@@ -240,6 +241,46 @@ fn conditions_apart() {
         assert_eq!(starts(plan.as_bytes(), place, one), Ok(vec![]));
         assert_eq!(starts(plan.as_bytes(), place, others), Ok(vec![0..=last]));
     }
+}
+
+// The forms of a window, a:p:b, and its faults in the order of checks: 3, 4, 8, 13.
+#[test]
+fn windows() {
+    let answer = |windows| report((p() + &changed(2, 5, windows)).as_bytes(), &mut [0; REPORT_MOST]).map(drop);
+    for windows in ["-", "0:0:8", "2:2:8", "2:8:8", "8:8:8", "4095:4095:4095", "0:1:2,3:4:4,5:5:6,7:8:9"] {
+        assert_eq!(answer(windows), Ok(()), "{windows}");
+    }
+    let refused = [
+        (Reason::Malformed, &["", "8", "0:8", "0:4:8:9", "0::8", "0:4:8,-", "9:4096:8,2"][..]),
+        (Reason::OutOfRange, &["4096:9:8", "9:4096:8", "9:9:4096", "0:9:8,0:4096:4096"]),
+        (Reason::ListWrong, &["9:9:8", "0:9:8,8:8:8", "0:9:8,9:9:9,10:10:10,11:11:11,12:12:12"]),
+        (Reason::OutOfWindow, &["0:9:8", "2:1:8", "0:4095:4094", "0:0:0,1:0:8", "0:0:0,1:9:8,9:9:9"]),
+    ];
+    for (reason, lists) in refused {
+        for windows in lists {
+            assert_eq!(answer(windows), Err(Refusal { reason, line: 2 }), "{windows}");
+        }
+    }
+}
+
+// Where an activity of one tick is placed that has unit 0 and prefers tick 9 on its line, with these windows, where two
+// others have the unit from a start on for so many ticks.
+fn placed_beside(others: [(u32, u32); 2], windows: &str) -> Result<Outcome, Refusal> {
+    let other = |(start, duration)| format!("act\t{start}\t0\t{duration}\t{start}\t-\t-\t0\t-\t-\t0\t0\t0\t0\t0\n");
+    let candidate = format!("act\t30\t1\t1\t9\t{windows}\t-\t0\t-\t-\t0\t0\t0\t0\t0\n");
+    outcome((p() + &others.map(other).concat() + &candidate).as_bytes(), 2)
+}
+
+// The start nearest to the preferred tick of its own window, and of two equally near the earlier; without windows the
+// one nearest to the preferred tick of the line.
+#[test]
+fn preferred_ticks_of_windows() {
+    let at = |start| Ok(Outcome::Placed { start });
+    assert_eq!(placed_beside([(0, 3), (12, 1)], "0:0:3,6:12:12"), at(11));
+    assert_eq!(placed_beside([(0, 2), (11, 2)], "0:0:3,6:12:12"), at(2));
+    assert_eq!(placed_beside([(0, 2), (11, 2)], "0:0:3,6:6:12"), at(6));
+    assert_eq!(placed_beside([(0, 2), (11, 2)], "-"), at(9));
+    assert_eq!(placed_beside([(0, 2), (9, 1)], "-"), at(8));
 }
 
 // The worked plan cut off at every byte: accepted behind a line's end alone.
@@ -305,8 +346,8 @@ fn threads_may_share_what_is_given() {
     let _: Box<dyn std::error::Error + Send + Sync> = outcome(b"", 0).unwrap_err().into();
 }
 
-// Document 01's words for the refusals, with "charge at horizon T" for c(T).
-const TEXTS: [&str; 12] = [
+// Document 01's words for the refusals, with "charge at horizon T" for c(T), and words for 13.
+const TEXTS: [&str; 13] = [
     "over 60,000 bytes",
     "first word or field count wrong, or no LF",
     "malformed number or item, or an empty field",
@@ -319,6 +360,7 @@ const TEXTS: [&str; 12] = [
     "lent slice too short for the answer",
     "place not below the activity count",
     "set over 511",
+    "preferred tick outside its window",
 ];
 
 #[test]

@@ -113,6 +113,7 @@ fn refusals() {
         ("SLICE_TOO_SHORT", Reason::SliceTooShort, stated(PROMISE, "pub short", " 0) × (after ≡ lent)")),
         ("NO_SUCH_PLACE", Reason::NoSuchPlace, stated(PROMISE, "pub no_place", " 0")),
         ("SET_TOO_LARGE", Reason::SetTooLarge, stated(PROMISE, "pub no_set", " 0")),
+        ("OUT_OF_WINDOW", Reason::OutOfWindow, stated(FORMS, "out_of_window", "")),
     ];
     assert_eq!(numbers.map(|(_, reason, _)| reason), Reason::ALL);
     assert_eq!(valued("REFUSAL_NONE"), 0);

@@ -1,5 +1,5 @@
 -- The specification's value of each struct of the code.
-use Rattle.std.specs.Prelude.{ℕ, List, map}
+use Rattle.std.specs.Prelude.{ℕ, map}
 use Rattle.rules.specs.Plan.{Header, Window, Setting, Activity}
 use Rattle.items.specs.declared.Item.{Item}
 use Rattle.activity.specs.declared.Header.{Header as HeaderStruct}
@@ -23,7 +23,7 @@ header_view h =
 
 -- an item as a window, as a setting and as a number
 abbrev pub window_of : Item → Window
-window_of i = record { from = i.first; to = i.second }
+window_of i = record { from = i.first; preferred = i.second; to = i.third }
 
 abbrev pub setting_of : Item → Setting
 setting_of i = record { variable = i.first; value = i.second }

@@ -19,8 +19,8 @@ pub struct Header {
     pub heater: u32,
 }
 
-// An activity line. A window has its first and last start, a need or a set its variable and value, an id or a unit its
-// number as both.
+// An activity line. A window has its first start, its preferred tick and its last start, a need or a set its variable and value,
+// an id or a unit its number.
 #[derive(Drop)]
 pub struct Activity {
     pub id: u32,

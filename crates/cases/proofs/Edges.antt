@@ -1,4 +1,4 @@
--- The ten cases marked † in document 01 (Edges), as one table of tests that antt computes.
+-- The ten cases marked † in document 01 (Edges), with the windows of document 02, [2], as one table of tests that antt computes.
 -- Assumes nothing.
 use Prim.Native.Nat.{ℕ, ◌<◌}
 use mathlib.Core.Path.{◌≡◌, refl}
@@ -34,14 +34,14 @@ edges =
     ∷ (eqb (warmup_entry 24) 16 && eqb (warmup_entry 0) 14 && eqb (warmup_entry 287) 13)
     -- 3 activity 10 may start at 15, not 14
     ∷ starts_are 3 511 15 18
-    -- 4 window 0:8 allows 8, not 9
+    -- 4 window 0:0:8 allows 8, not 9
     ∷ starts_are 1 1 0 8
     -- 5 activity 7: start 4 meets H, 3 doesn't
     ∷ starts_are 0 256 4 15
     -- 6 handover 60 is accepted in P, 61 refused
     ∷ (same (output (tabbed "plan 20 840 100 20 40 1 60 1 10 50 1\n")) (tabbed "end 0 0 60 0 40 0\n") && same (output (tabbed "plan 20 840 100 20 40 1 61 1 10 50 1\n")) (tabbed "no 9 0\n"))
-    -- 7 valid 8 and 16, preferred 12: 8
-    ∷ same (output (line_p ++ tabbed "act 1 0 1 12 8:8,16:16 - - - - 0 0 0 0 0\n")) (tabbed "1 placed 8 9\nend 1 0 60 0 40 0\n")
+    -- 7 valid 8 and 16, preferred 12, by the preferred field and by a window: 8
+    ∷ (same (output (line_p ++ tabbed "act 1 0 7 9 - - 0 - - 0 0 0 0 0\nact 2 0 1 12 - - 0 - - 0 0 0 0 0\n")) (tabbed "1 placed 9 16\n2 placed 8 9\nend 2 0 60 0 40 0\n") && same (output (line_p ++ tabbed "act 1 0 7 9 - - 0 - - 0 0 0 0 0\nact 2 0 1 0 8:12:16 - 0 - - 0 0 0 0 0\n")) (tabbed "1 placed 9 16\n2 placed 8 9\nend 2 0 60 0 40 0\n"))
     -- 8 s + d = T is a start
     ∷ starts_are 3 0 0 18
     -- 9 c equal to the floor is enough

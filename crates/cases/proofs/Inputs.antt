@@ -22,6 +22,6 @@ unfoldable pub worked : List ℕ
 worked =
     line_p ++
     line_a ++
-    tabbed "act 8 2 3 0 0:8 7 - - - 0 0 0 0 0\n" ++
+    tabbed "act 8 2 3 0 0:0:8 7 - - - 0 0 0 0 0\n" ++
     tabbed "act 9 3 2 12 - - 0 1=3 - 1 7 2 41 0\n" ++
     tabbed "act 10 4 2 12 - - 0 1=3 - 1 7 2 40 0\n"

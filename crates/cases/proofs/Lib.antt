@@ -7,6 +7,7 @@ pub mod Charge
 pub mod Lowest
 pub mod State
 pub mod Limits
+pub mod Windows
 pub mod Letters
 pub mod Lines
 pub mod Ranges

@@ -1,4 +1,4 @@
--- W, D, U, E, P and V, and the scheduling order (01, Nine conditions and The plan file).
+-- D, U, E, P and V, and the scheduling order (01, Nine conditions and The plan file); `Windows` has W.
 -- Assumes nothing.
 use Prim.Native.Nat.{ℕ}
 use mathlib.Core.Path.{◌≡◌, refl}
@@ -15,12 +15,8 @@ held start duration = record { activity = record { id = 0; priority = 0; duratio
 
 unfoldable pub limit_examples : List Bool
 limit_examples =
-    -- two windows: the nearer start
-    prints "plan 9 0 1 0 0 0 0 0 0 0 0\nact 1 0 1 4 0:1,6:7 - - - - 0 0 0 0 0\n" "1 placed 6 7\nend 1 0 0 0 0 0\n"
-    -- a tie of two starts: the earlier
-    ∷ prints "plan 9 0 1 0 0 0 0 0 0 0 0\nact 1 0 1 4 2:2,6:6 - - - - 0 0 0 0 0\n" "1 placed 2 3\nend 1 0 0 0 0 0\n"
     -- after an end exactly met, and after a refused predecessor
-    ∷ prints "plan 6 0 1 0 0 0 0 0 0 0 0\nact 1 0 2 1 - - - - - 0 0 0 0 0\nact 2 1 1 0 - 1 - - - 0 0 0 0 0\nact 3 2 1 0 9:9 - - - - 0 0 0 0 0\nact 4 3 1 0 - 1,3 - - - 0 0 0 0 0\n" "1 placed 1 3\n2 placed 3 4\n3 refused W\n4 refused D\nend 2 2 0 0 0 0\n"
+    prints "plan 6 0 1 0 0 0 0 0 0 0 0\nact 1 0 2 1 - - - - - 0 0 0 0 0\nact 2 1 1 0 - 1 - - - 0 0 0 0 0\nact 3 2 1 0 9:9:9 - - - - 0 0 0 0 0\nact 4 3 1 0 - 1,3 - - - 0 0 0 0 0\n" "1 placed 1 3\n2 placed 3 4\n3 refused W\n4 refused D\nend 2 2 0 0 0 0\n"
     -- engines at the limit, and over it
     ∷ prints "plan 2 0 1 0 0 0 0 3 0 0 0\nact 1 0 2 0 - - - - - 2 0 0 0 0\nact 2 1 2 0 - - - - - 1 0 0 0 0\nact 3 2 1 0 - - - - - 1 0 0 0 0\n" "1 placed 0 2\n2 placed 0 2\n3 refused E\nend 2 1 0 0 0 0\n"
     -- peaks at the limit, and over it
@@ -31,14 +27,11 @@ limit_examples =
     ∷ prints "plan 3 0 1 0 0 0 0 0 0 0 0\nact 1 0 2 0 - - 3,7 - - 0 0 0 0 0\nact 2 1 1 0 - - 7 - - 0 0 0 0 0\nact 3 2 1 0 - - 3 - - 0 0 0 0 0\nact 4 3 1 0 - - 3,7 - - 0 0 0 0 0\n" "1 placed 0 2\n2 placed 2 3\n3 placed 2 3\n4 refused U\nend 3 1 0 0 0 0\n"
     -- the order is by priority, then by line
     ∷ prints "plan 2 0 1 0 0 0 0 0 0 0 0\nact 1 5 1 0 - - 0 - - 0 0 0 0 0\nact 2 4 1 0 - - 0 - - 0 0 0 0 0\nact 3 4 1 0 - - 0 - - 0 0 0 0 0\n" "2 placed 0 1\n3 placed 1 2\n1 refused U\nend 2 1 0 0 0 0\n"
-    -- two windows of which the earlier is nearer; a preferred tick beyond every start
-    ∷ prints "plan 9 0 1 0 0 0 0 0 0 0 0\nact 1 0 1 3 0:1,6:7 - - - - 0 0 0 0 0\n" "1 placed 1 2\nend 1 0 0 0 0 0\n"
-    ∷ prints "plan 9 0 1 0 0 0 0 0 0 0 0\nact 1 0 2 4095 - - - - - 0 0 0 0 0\n" "1 placed 7 9\nend 1 0 0 0 0 0\n"
     -- a predecessor that is not the last named bars starts, and one that is not the first
     ∷ starts "plan 8 0 1 0 0 0 0 0 0 0 0\nact 1 0 2 3 - - - - - 0 0 0 0 0\nact 2 0 1 0 - - - - - 0 0 0 0 0\nact 3 1 1 0 - 1,2 - - - 0 0 0 0 0\n" 2 2 (5 ∷ 7 ∷ [])
     ∷ starts "plan 8 0 1 0 0 0 0 0 0 0 0\nact 1 0 1 0 - - - - - 0 0 0 0 0\nact 2 0 2 3 - - - - - 0 0 0 0 0\nact 3 1 1 0 - 1,2 - - - 0 0 0 0 0\n" 2 2 (5 ∷ 7 ∷ [])
     -- a refused one named first
-    ∷ starts "plan 4 0 1 0 0 0 0 0 0 0 0\nact 1 0 1 0 9:9 - - - - 0 0 0 0 0\nact 2 0 1 0 - - - - - 0 0 0 0 0\nact 3 1 1 0 - 1,2 - - - 0 0 0 0 0\n" 2 2 []
+    ∷ starts "plan 4 0 1 0 0 0 0 0 0 0 0\nact 1 0 1 0 9:9:9 - - - - 0 0 0 0 0\nact 2 0 1 0 - - - - - 0 0 0 0 0\nact 3 1 1 0 - 1,2 - - - 0 0 0 0 0\n" 2 2 []
     -- a shared unit that is the last of both; of three that is in the middle; units of which none is shared
     ∷ starts "plan 4 0 1 0 0 0 0 0 0 0 0\nact 1 0 1 1 - - 3,7 - - 0 0 0 0 0\nact 2 1 1 0 - - 5,7 - - 0 0 0 0 0\n" 1 4 (0 ∷ 0 ∷ 2 ∷ 3 ∷ [])
     ∷ starts "plan 4 0 1 0 0 0 0 0 0 0 0\nact 1 0 1 1 - - 3,7,9 - - 0 0 0 0 0\nact 2 1 1 0 - - 5,7,8 - - 0 0 0 0 0\n" 1 4 (0 ∷ 0 ∷ 2 ∷ 3 ∷ [])

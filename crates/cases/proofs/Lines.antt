@@ -41,11 +41,12 @@ reading_examples =
     ∷ prints "plane 1 0 1 0 0 0 0 0 0 0 0\n" "no 2 1\n"
     -- fields left to right: 4 in an earlier field before 3 in a later one
     ∷ prints "plan 4097 x 1 0 0 0 0 0 0 0 0\n" "no 4 1\n"
-    -- over one whole field: 3 before 4 before 8
-    ∷ prints "plan 9 0 1 0 0 0 0 0 0 0 0\nact 1 0 1 0 5000:1,x:2 - - - - 0 0 0 0 0\n" "no 3 2\n"
-    ∷ prints "plan 9 0 1 0 0 0 0 0 0 0 0\nact 1 0 1 0 3:1,5000:5000 - - - - 0 0 0 0 0\n" "no 4 2\n"
-    ∷ prints "plan 9 0 1 0 0 0 0 0 0 0 0\nact 1 0 1 0 0:1,1:2 - - - - 0 0 0 0 0\n" "no 8 2\n"
-    ∷ prints "plan 9 0 1 0 0 0 0 0 0 0 0\nact 1 0 1 0 0:0,1:1,2:2,3:3,4:4 - - - - 0 0 0 0 0\n" "no 8 2\n"
+    -- over one whole field: 3 before 4 before 8 before 13
+    ∷ prints "plan 9 0 1 0 0 0 0 0 0 0 0\nact 1 0 1 0 5000:5000:1,x:2:2 - - - - 0 0 0 0 0\n" "no 3 2\n"
+    ∷ prints "plan 9 0 1 0 0 0 0 0 0 0 0\nact 1 0 1 0 3:3:1,5000:5000:5000 - - - - 0 0 0 0 0\n" "no 4 2\n"
+    ∷ prints "plan 9 0 1 0 0 0 0 0 0 0 0\nact 1 0 1 0 0:2:1,1:1:2 - - - - 0 0 0 0 0\n" "no 8 2\n"
+    ∷ prints "plan 9 0 1 0 0 0 0 0 0 0 0\nact 1 0 1 0 0:1:0,1:1:1,2:2:2,3:3:3,4:4:4 - - - - 0 0 0 0 0\n" "no 8 2\n"
+    ∷ prints "plan 9 0 1 0 0 0 0 0 0 0 0\nact 1 0 1 0 0:1:0,1:1:1,2:2:2,3:3:3 - - - - 0 0 0 0 0\n" "no 13 2\n"
     -- eleven digits, a dash in a list, an empty item, an empty field
     ∷ prints "plan 10000000000 0 1 0 0 0 0 0 0 0 0\n" "no 3 1\n"
     ∷ prints "plan 9 0 1 0 0 0 0 0 0 0 0\nact 1 0 1 0 - - 1,- - - 0 0 0 0 0\n" "no 3 2\n"
@@ -114,6 +115,8 @@ reading_examples =
     -- a 65th activity line: 2 before 5, and 5 before the fields; a 64th: its fields
     ∷ sixty_fifth 64 "act\n" 2 66
     ∷ sixty_fifth 64 "act x 0 1 0 - - - - - 0 0 0 0 0\n" 5 66
+    ∷ sixty_fifth 64 "act 1 0 1 0 0:9:8 - - - - 0 0 0 0 0\n" 5 66
+    ∷ sixty_fifth 63 "act 1 0 1 0 0:9:8 - - - - 0 0 0 0 0\n" 13 65
     ∷ sixty_fifth 63 "act x 0 1 0 - - - - - 0 0 0 0 0\n" 3 65
     ∷ sixty_fifth 63 "act 1 0 1 0 - - - - - 0 0 0 0 0\n" 0 0
     -- numbers as they are written

@@ -86,17 +86,17 @@ lowest_examples =
     ∷ prints "plan 4 0 10 0 8 3 0 0 0 0 0\nact 1 0 1 1 - - - - - 0 0 9 0 0\n" "1 placed 1 2\nend 1 0 10 0 4 2\n"
     ∷ prints "plan 5 0 10 0 9 4 0 0 0 0 0\nact 1 0 1 0 - - - - - 0 0 8 0 0\nact 2 0 1 3 - - - - - 0 0 10 0 0\n" "1 placed 0 1\n2 placed 3 4\nend 2 0 8 0 4 4\n"
     -- refused ones draw nothing, nor do their heaters: 9 9 9 9, and 10 10 10 9 9 9 9 9 9
-    ∷ prints "plan 3 0 20 0 9 0 0 0 0 0 0\nact 1 0 1 1 5:5 - - - - 0 0 4 0 0\n" "1 refused W\nend 0 1 9 0 9 0\n"
-    ∷ prints "plan 8 840 20 0 10 0 0 0 0 0 1\nact 1 0 1 5 9:9 - - - - 0 0 4 0 1\nact 2 0 1 2 - - - - - 0 0 1 0 0\n" "1 refused W\n2 placed 2 3\nend 1 1 9 0 9 3\n"
+    ∷ prints "plan 3 0 20 0 9 0 0 0 0 0 0\nact 1 0 1 1 5:5:5 - - - - 0 0 4 0 0\n" "1 refused W\nend 0 1 9 0 9 0\n"
+    ∷ prints "plan 8 840 20 0 10 0 0 0 0 0 1\nact 1 0 1 5 9:9:9 - - - - 0 0 4 0 1\nact 2 0 1 2 - - - - - 0 0 1 0 0\n" "1 refused W\n2 placed 2 3\nend 1 1 9 0 9 3\n"
     -- the lowest equal to the floor, 5: 9 11 5 7 9; under it at that tick alone, 9 11 4 6 8, it is refused, which leaves 9 11 13 15 17
-    ∷ prints "plan 4 0 20 5 9 2 0 0 0 0 0\nact 1 0 1 1 1:1 - - - - 0 0 8 0 0\n" "1 placed 1 2\nend 1 0 9 0 5 2\n"
-    ∷ prints "plan 4 0 20 5 9 2 0 0 0 0 0\nact 1 0 1 1 1:1 - - - - 0 0 9 0 0\n" "1 refused WB\nend 0 1 17 0 9 0\n"
+    ∷ prints "plan 4 0 20 5 9 2 0 0 0 0 0\nact 1 0 1 1 1:1:1 - - - - 0 0 8 0 0\n" "1 placed 1 2\nend 1 0 9 0 5 2\n"
+    ∷ prints "plan 4 0 20 5 9 2 0 0 0 0 0\nact 1 0 1 1 1:1:1 - - - - 0 0 9 0 0\n" "1 refused WB\nend 0 1 17 0 9 0\n"
     -- the same at every start, B alone: start 0 gives 9 3 5 7 9 and 9 2 4 6 8, start 1 the charges above, starts 2 and 3 none under 6
     ∷ starts "plan 4 0 20 5 9 2 0 0 0 0 0\nact 1 0 1 1 - - - - - 0 0 8 0 0\n" 0 64 (1 ∷ 3 ∷ [])
     ∷ starts "plan 4 0 20 5 9 2 0 0 0 0 0\nact 1 0 1 1 - - - - - 0 0 9 0 0\n" 0 64 (2 ∷ 3 ∷ [])
     -- the handover charge, 9, is asked of the last and not of the lowest: 9 11 5 7 9; the last is missed by 1: 9 11 4 6 8
-    ∷ starts "plan 4 0 20 0 9 2 9 0 0 0 0\nact 1 0 1 1 1:1 - - - - 0 0 8 0 0\n" 0 65 (1 ∷ 1 ∷ [])
-    ∷ starts "plan 4 0 20 0 9 2 9 0 0 0 0\nact 1 0 1 1 1:1 - - - - 0 0 9 0 0\n" 0 65 []
+    ∷ starts "plan 4 0 20 0 9 2 9 0 0 0 0\nact 1 0 1 1 1:1:1 - - - - 0 0 8 0 0\n" 0 65 (1 ∷ 1 ∷ [])
+    ∷ starts "plan 4 0 20 0 9 2 9 0 0 0 0\nact 1 0 1 1 1:1:1 - - - - 0 0 9 0 0\n" 0 65 []
     -- 9 goes by the last charge: 2 5 8 11
     ∷ prints "plan 3 0 20 0 2 3 11 0 0 0 0\n" "end 0 0 11 0 2 0\n"
     ∷ prints "plan 3 0 20 0 2 3 12 0 0 0 0\n" "no 9 0\n"

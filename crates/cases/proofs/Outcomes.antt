@@ -10,14 +10,14 @@ use Rattle.rules.specs.Report.{output}
 use Rattle.rules.specs.Calls.{outcome_terms, count_terms, outcome_call, slice_after, report_call, starts_call}
 use Rattle.rules.specs.declared.Outcome.TheVariants.{Placed, Refused}
 use Rattle.rules.specs.Refusals.{number_of, refusal_view}
-use Rattle.rules.specs.declared.Fault.TheVariants.{TooLong, NotFormed, Malformed, OutOfRange, TooMany, Repeated, Misplaced, NotRising, OutOfReach, NoRoom, NoPlace, NoSet}
+use Rattle.rules.specs.declared.Fault.TheVariants.{TooLong, NotFormed, Malformed, OutOfRange, TooMany, Repeated, Misplaced, NotRising, OutOfReach, NoRoom, NoPlace, NoSet, OutOfWindow}
 use Rattle.std.specs.Prelude.{Ok, Err}
 use Rattle.cases.proofs.Inputs.{tabbed}
 use Rattle.cases.proofs.Rows.{all, rows_opened, answers, equal, terms_are}
 
 -- a plan whose activities are refused with one letter each, but for the third
 unfoldable pub nine : List ℕ
-nine = tabbed "plan 2 0 1 0 0 0 0 0 0 0 0\nact 1 0 1 0 5:5 - - - - 0 0 0 0 0\nact 2 0 1 0 - 1 - - - 0 0 0 0 0\nact 3 0 2 0 - - 0 - - 0 0 0 0 0\nact 4 0 1 0 - - 0 - - 0 0 0 0 0\nact 5 0 1 0 - - - 0=1 - 0 0 0 0 0\nact 6 0 1 0 - - - - - 1 0 0 0 0\nact 7 0 1 0 - - - - - 0 1 0 0 0\nact 8 0 1 0 - - - - - 0 0 1 0 0\nact 9 0 1 0 - - - - - 0 0 0 1 0\nact 10 0 1 0 - - - - - 0 0 0 0 1\n"
+nine = tabbed "plan 2 0 1 0 0 0 0 0 0 0 0\nact 1 0 1 0 5:5:5 - - - - 0 0 0 0 0\nact 2 0 1 0 - 1 - - - 0 0 0 0 0\nact 3 0 2 0 - - 0 - - 0 0 0 0 0\nact 4 0 1 0 - - 0 - - 0 0 0 0 0\nact 5 0 1 0 - - - 0=1 - 0 0 0 0 0\nact 6 0 1 0 - - - - - 1 0 0 0 0\nact 7 0 1 0 - - - - - 0 1 0 0 0\nact 8 0 1 0 - - - - - 0 0 1 0 0\nact 9 0 1 0 - - - - - 0 0 0 1 0\nact 10 0 1 0 - - - - - 0 0 0 0 1\n"
 
 unfoldable pub outcome_examples : List Bool
 outcome_examples =
@@ -64,6 +64,7 @@ outcome_examples =
     ∷ eqb (number_of NoRoom) 10
     ∷ eqb (number_of NoPlace) 11
     ∷ eqb (number_of NoSet) 12
+    ∷ eqb (number_of OutOfWindow) 13
     ∷ eqb (refusal_view (record { fault = TooMany; line = 66 })).number 5
     ∷ eqb (refusal_view (record { fault = TooMany; line = 66 })).line 66
     -- an answer in the document's terms

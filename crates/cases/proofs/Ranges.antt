@@ -43,7 +43,7 @@ header_numbers (accepted p) = let h = p.header in h.horizon ∷ h.minute ∷ h.c
 
 unfoldable pub window_numbers : List Window → List ℕ
 window_numbers [] = []
-window_numbers (w ∷ ws) = w.from ∷ w.to ∷ window_numbers ws
+window_numbers (w ∷ ws) = w.from ∷ w.preferred ∷ w.to ∷ window_numbers ws
 
 unfoldable pub setting_numbers : List Setting → List ℕ
 setting_numbers [] = []
@@ -112,25 +112,55 @@ range_examples =
     ∷ in_activity 4 "0" 0
     ∷ in_activity 4 "4095" 0
     ∷ in_activity 4 "4096" 4
-    -- windows: bounds, order, number, form
-    ∷ in_activity 5 "0:0" 0
-    ∷ in_activity 5 "4095:4095" 0
-    ∷ in_activity 5 "0:4096" 4
-    ∷ in_activity 5 "4096:4096" 4
-    ∷ in_activity 5 "4096:0" 4
-    ∷ in_activity 5 "5:4" 8
-    ∷ in_activity 5 "4:5,5:6" 8
-    ∷ in_activity 5 "4:5,6:6" 0
-    ∷ in_activity 5 "6:6,4:5" 8
-    ∷ in_activity 5 "0:0,1:1,2:2,3:3" 0
-    ∷ in_activity 5 "0:0,1:1,2:2,3:3,4:4" 8
+    -- windows: the three numbers of one, first start, preferred tick and last start, from 0 to 4,095, each alone beyond it
+    ∷ in_activity 5 "0:0:0" 0
+    ∷ in_activity 5 "4095:4095:4095" 0
+    ∷ in_activity 5 "4096:4095:4095" 4
+    ∷ in_activity 5 "0:4096:4095" 4
+    ∷ in_activity 5 "0:0:4096" 4
+    ∷ in_activity 5 "4096:4096:4096" 4
+    ∷ in_activity 5 "0:0:0,1:4096:2" 4
+    -- a ≤ b, each begins after the last one's b, at most four
+    ∷ in_activity 5 "5:5:4" 8
+    ∷ in_activity 5 "5:4:4" 8
+    ∷ in_activity 5 "4:4:5,5:5:6" 8
+    ∷ in_activity 5 "4:4:5,5:6:6" 8
+    ∷ in_activity 5 "4:4:5,6:6:6" 0
+    ∷ in_activity 5 "4:5:5,6:6:6" 0
+    ∷ in_activity 5 "6:6:6,4:4:5" 8
+    ∷ in_activity 5 "0:0:0,1:1:1,2:2:2,3:3:3" 0
+    ∷ in_activity 5 "0:0:0,1:1:1,2:2:2,3:3:3,4:4:4" 8
+    -- the preferred tick from a to b, in each window
+    ∷ in_activity 5 "2:1:5" 13
+    ∷ in_activity 5 "2:2:5" 0
+    ∷ in_activity 5 "2:3:5" 0
+    ∷ in_activity 5 "2:5:5" 0
+    ∷ in_activity 5 "2:6:5" 13
+    ∷ in_activity 5 "1:0:4095" 13
+    ∷ in_activity 5 "0:0:4095" 0
+    ∷ in_activity 5 "0:4095:4095" 0
+    ∷ in_activity 5 "0:4095:4094" 13
+    ∷ in_activity 5 "2:2:5,7:6:8" 13
+    ∷ in_activity 5 "2:2:5,7:9:8" 13
+    ∷ in_activity 5 "2:6:5,7:7:8" 13
+    ∷ in_activity 5 "0:0:0,1:1:1,2:3:2,3:3:3" 13
+    ∷ in_activity 5 "0:0:0,1:1:1,2:2:2,3:4:3" 13
+    -- three numbers with `:` between them
     ∷ in_activity 5 "1" 3
+    ∷ in_activity 5 "1:2" 3
+    ∷ in_activity 5 "1:1:2:2" 3
     ∷ in_activity 5 "1:" 3
     ∷ in_activity 5 ":1" 3
-    ∷ in_activity 5 "1:2:3" 3
-    ∷ in_activity 5 "1=2" 3
-    ∷ in_activity 5 "1:x" 3
-    ∷ in_activity 5 "x:1" 3
+    ∷ in_activity 5 "1:2:" 3
+    ∷ in_activity 5 ":1:2" 3
+    ∷ in_activity 5 "1::2" 3
+    ∷ in_activity 5 "1=1=2" 3
+    ∷ in_activity 5 "1:1=2" 3
+    ∷ in_activity 5 "x:1:1" 3
+    ∷ in_activity 5 "1:x:1" 3
+    ∷ in_activity 5 "1:1:x" 3
+    ∷ in_activity 5 "1:01:1" 3
+    ∷ in_activity 5 "1:1:1,2:3" 3
     -- after
     ∷ in_activity 6 "0" 0
     ∷ in_activity 6 "65535" 0
@@ -197,7 +227,7 @@ range_examples =
     ∷ in_activity 14 "2" 4
     -- each field is read into its place
     ∷ equal (header_numbers (plan_lines (lines (tabbed "plan 11 12 130 14 15 16 17 18 19 20 21\n")))) (11 ∷ 12 ∷ 130 ∷ 14 ∷ 15 ∷ 16 ∷ 17 ∷ 18 ∷ 19 ∷ 20 ∷ 21 ∷ [])
-    ∷ equal (activity_numbers (plan_lines (lines (tabbed "plan 11 12 130 14 15 16 17 18 19 20 21\nact 1 2 3 4 5:6,7:8 9,10 11,12 1=13,2=14 3=15,4=16 17 18 19 20 1\n")))) (1 ∷ 2 ∷ 3 ∷ 4 ∷ 5 ∷ 6 ∷ 7 ∷ 8 ∷ 9 ∷ 10 ∷ 11 ∷ 12 ∷ 1 ∷ 13 ∷ 2 ∷ 14 ∷ 3 ∷ 15 ∷ 4 ∷ 16 ∷ 17 ∷ 18 ∷ 19 ∷ 20 ∷ 1 ∷ [])
+    ∷ equal (activity_numbers (plan_lines (lines (tabbed "plan 11 12 130 14 15 16 17 18 19 20 21\nact 1 2 3 4 5:6:7,40:41:42 9,10 11,12 1=13,2=14 3=15,4=16 17 18 19 20 1\n")))) (1 ∷ 2 ∷ 3 ∷ 4 ∷ 5 ∷ 6 ∷ 7 ∷ 40 ∷ 41 ∷ 42 ∷ 9 ∷ 10 ∷ 11 ∷ 12 ∷ 1 ∷ 13 ∷ 2 ∷ 14 ∷ 3 ∷ 15 ∷ 4 ∷ 16 ∷ 17 ∷ 18 ∷ 19 ∷ 20 ∷ 1 ∷ [])
     ∷ []
 
 ranges : all range_examples ≡ true

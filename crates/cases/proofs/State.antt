@@ -13,9 +13,9 @@ state_examples =
     -- a set that spoils a placed need: activity 2 must end after activity 1 holds its last tick
     ∷ prints "plan 10 0 1 0 0 0 0 0 0 0 0\nact 1 1 2 5 - - - 1=0 - 0 0 0 0 0\nact 2 2 2 0 - - - - 1=3 0 0 0 0 0\n" "1 placed 5 7\n2 placed 5 7\nend 2 0 0 0 0 0\n"
     -- equal effect ticks: the set of the later place stands
-    ∷ prints "plan 6 0 1 0 0 0 0 0 0 0 0\nact 1 1 2 0 2:2 - - - 1=3 0 0 0 0 0\nact 2 2 1 0 3:3 - - - 1=5 0 0 0 0 0\nact 3 3 1 0 - - - 1=5 - 0 0 0 0 0\nact 4 4 1 0 - - - 1=3 - 0 0 0 0 0\n" "1 placed 2 4\n2 placed 3 4\n3 placed 4 5\n4 refused S\nend 3 1 0 0 0 0\n"
+    ∷ prints "plan 6 0 1 0 0 0 0 0 0 0 0\nact 1 1 2 0 2:2:2 - - - 1=3 0 0 0 0 0\nact 2 2 1 0 3:3:3 - - - 1=5 0 0 0 0 0\nact 3 3 1 0 - - - 1=5 - 0 0 0 0 0\nact 4 4 1 0 - - - 1=3 - 0 0 0 0 0\n" "1 placed 2 4\n2 placed 3 4\n3 placed 4 5\n4 refused S\nend 3 1 0 0 0 0\n"
     -- the later effect tick stands, whichever place set it
-    ∷ prints "plan 6 0 1 0 0 0 0 0 0 0 0\nact 1 1 1 0 3:3 - - - 1=3 0 0 0 0 0\nact 2 2 1 0 1:1 - - - 1=5 0 0 0 0 0\nact 3 3 1 5 - - - 1=5 - 0 0 0 0 0\n" "1 placed 3 4\n2 placed 1 2\n3 placed 3 4\nend 3 0 0 0 0 0\n"
+    ∷ prints "plan 6 0 1 0 0 0 0 0 0 0 0\nact 1 1 1 0 3:3:3 - - - 1=3 0 0 0 0 0\nact 2 2 1 0 1:1:1 - - - 1=5 0 0 0 0 0\nact 3 3 1 5 - - - 1=5 - 0 0 0 0 0\n" "1 placed 3 4\n2 placed 1 2\n3 placed 3 4\nend 3 0 0 0 0 0\n"
     -- an activity's own set is not in effect while it holds
     ∷ prints "plan 3 0 1 0 0 0 0 0 0 0 0\nact 1 0 1 0 - - - 1=2 1=2 0 0 0 0 0\n" "1 refused S\nend 0 1 0 0 0 0\n"
     -- a set of another variable, a smaller and a greater one

@@ -116,7 +116,7 @@ first_is rows id (suc n) l = rw (← add-one n, take_more rows n no_row l, ends_
 
 -- ---- the first start, as the code has it
 abbrev pub no_item : Item
-no_item = record { first = 0; second = 0 }
+no_item = record { first = 0; second = 0; third = 0 }
 
 pub ready_by : (rows entries : List Row) (n : ℕ) (after : List Item) (i : ℕ) (end : Option ℕ) → entries ≡ take n rows → n ≤ length rows → i < length after → end ≡ reduce min (ends (get_or after i no_item).first entries) → IsReady (first_end rows (get_or (map number_of after) i 0) n) end
 ready_by rows entries n after i end e l k f = rw (f, e, get_or-map number_of after i no_item 0 k) (first_is rows (get_or after i no_item).first n l)

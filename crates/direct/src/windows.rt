@@ -10,11 +10,11 @@ use sets::table::mark_where;
 
 // Whether the start s is in one of the windows.
 fn in_window(windows: &[Item], s: u32) -> bool
-    ensures { result ≡ list_any (λ window. leb window.first s && leb s window.second) windows.now }
+    ensures { result ≡ list_any (λ window. leb window.first s && leb s window.third) windows.now }
 {
     windows
         .iter()
-        .any(|window| window.first <= s && s <= window.second)
+        .any(|window| window.first <= s && s <= window.third)
 }
 
 // The same, or there is no window.

@@ -1,12 +1,13 @@
 -- The forms of an activity's lists.
-use Rattle.std.specs.Prelude.{ℕ, true, false, Some, None}
+use Rattle.std.specs.Prelude.{ℕ, true, false}
 use Rattle.text.specs.declared.list.Form.{Form}
+use Rattle.text.specs.declared.list.Shape.TheVariants.{One, Two, Three}
 
 abbrev pub window_form : Form
-window_form = record { mark = Some 58; first = 4095; second = 4095; spans = true }
+window_form = record { shape = Three 58; most_first = 4095; most_others = 4095; spans = true }
 
 abbrev pub number_form : ℕ → Form
-number_form hi = record { mark = None; first = hi; second = hi; spans = false }
+number_form hi = record { shape = One; most_first = hi; most_others = hi; spans = false }
 
 abbrev pub setting_form : Form
-setting_form = record { mark = Some 61; first = 7; second = 255; spans = false }
+setting_form = record { shape = Two 61; most_first = 7; most_others = 255; spans = false }

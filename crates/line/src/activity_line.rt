@@ -9,16 +9,16 @@ ghost use Rattle.line.specs.Forms.{window_form, number_form, setting_form};
 use crate::fields::Fields;
 use activity::{Activity, Header};
 use rules::Fault;
-use text::list::Form;
+use text::list::{Form, Shape};
 
-// Windows, `a:b`.
+// Windows, `a:p:b`.
 pub fn windows() -> Form
     ensures { result ≡ window_form }
 {
     Form {
-        mark: Some(b':'),
-        first: 4095,
-        second: 4095,
+        shape: Shape::Three(b':'),
+        most_first: 4095,
+        most_others: 4095,
         spans: true,
     }
 }
@@ -28,9 +28,9 @@ pub fn numbers(hi: u32) -> Form
     ensures { result ≡ number_form hi }
 {
     Form {
-        mark: None,
-        first: hi,
-        second: hi,
+        shape: Shape::One,
+        most_first: hi,
+        most_others: hi,
         spans: false,
     }
 }
@@ -40,9 +40,9 @@ pub fn settings() -> Form
     ensures { result ≡ setting_form }
 {
     Form {
-        mark: Some(b'='),
-        first: 7,
-        second: 255,
+        shape: Shape::Two(b'='),
+        most_first: 7,
+        most_others: 255,
         spans: false,
     }
 }

@@ -21,7 +21,7 @@ use Rattle.activity.specs.View.{setting_of, number_of}
 use Rattle.placed.specs.Held.{UnitsSay}
 
 abbrev pub no_item : Item
-no_item = record { first = 0; second = 0 }
+no_item = record { first = 0; second = 0; third = 0 }
 
 -- an item of well-formed settings is in range
 pub item_most : (xs : List Item) (i : ℕ) → SettingsFormed (map setting_of xs) → i < length xs → ((get_or xs i no_item).first ≤ 7) × ((get_or xs i no_item).second ≤ 255)

@@ -54,7 +54,7 @@ fn reply_to(
     let table = Table {
         sets: &table[..count as usize],
     };
-    reply_by(&table, candidate.preferred)
+    reply_by(&table, candidate)
 }
 
 // Puts the candidate with the placed if it is answered as placed.

@@ -2,6 +2,7 @@
 use activity::{Activity, Header};
 use items::Item;
 use std::fmt::{self, Display};
+use text::list::Shape;
 
 // The first line.
 #[derive(Clone, Copy)]
@@ -24,11 +25,11 @@ impl Display for FirstLine<'_> {
     }
 }
 
-// A list field; where its items are pairs, with the mark inside each.
+// A list field, and how its items are written.
 #[derive(Clone, Copy)]
 struct ListField<'a> {
     items: &'a [Item],
-    mark: Option<char>,
+    shape: Shape,
 }
 
 impl Display for ListField<'_> {
@@ -41,24 +42,40 @@ impl Display for ListField<'_> {
                 f.write_str(",")?;
             }
             write!(f, "{}", item.first)?;
-            if let Some(mark) = self.mark {
-                write!(f, "{mark}{}", item.second)?;
+            match self.shape {
+                Shape::One => {}
+                Shape::Two(mark) => write!(f, "{}{}", char::from(mark), item.second)?,
+                Shape::Three(mark) => {
+                    let mark = char::from(mark);
+                    write!(f, "{mark}{}{mark}{}", item.second, item.third)?;
+                }
             }
         }
         Ok(())
     }
 }
 
-// A list of numbers.
-fn numbers(items: &[Item]) -> ListField {
-    ListField { items, mark: None }
-}
-
-// A list of pairs.
-fn pairs(items: &[Item], mark: char) -> ListField {
+// A list of windows.
+fn windows(items: &[Item]) -> ListField {
     ListField {
         items,
-        mark: Some(mark),
+        shape: Shape::Three(b':'),
+    }
+}
+
+// A list of ids or units.
+fn numbers(items: &[Item]) -> ListField {
+    ListField {
+        items,
+        shape: Shape::One,
+    }
+}
+
+// A list of needs or sets.
+fn settings(items: &[Item]) -> ListField {
+    ListField {
+        items,
+        shape: Shape::Two(b'='),
     }
 }
 
@@ -74,11 +91,11 @@ impl Display for ActivityLine<'_> {
             "act\t{}\t{}\t{}\t{}",
             a.id, a.priority, a.duration, a.preferred
         )?;
-        write!(f, "\t{}", pairs(a.windows.as_slice(), ':'))?;
+        write!(f, "\t{}", windows(a.windows.as_slice()))?;
         write!(f, "\t{}", numbers(a.after.as_slice()))?;
         write!(f, "\t{}", numbers(a.units.as_slice()))?;
-        write!(f, "\t{}", pairs(a.needs.as_slice(), '='))?;
-        write!(f, "\t{}", pairs(a.sets.as_slice(), '='))?;
+        write!(f, "\t{}", settings(a.needs.as_slice()))?;
+        write!(f, "\t{}", settings(a.sets.as_slice()))?;
         write!(
             f,
             "\t{}\t{}\t{}\t{}\t{}",

@@ -13,7 +13,7 @@ use Rattle.rules.specs.Plan.{Header, Activity}
 use Rattle.rules.specs.Number.{value_of, decimal}
 use Rattle.rules.specs.Lines.{fields, field}
 use Rattle.rules.specs.Fields.{Read, Kind, number_field, list_field, numbers, window_kind, setting_kind}
-use Rattle.rules.specs.Forms.{NumberFormed, NumberFault, no_number, below, above, ItemsFormed, no_items, all_items, ItemsFault, no_item, outside, no_rise, too_many, Form, number, number_list, window_list, setting_list, FieldFormed, FieldFault, form_at, FieldsFault, plan_forms, act_forms}
+use Rattle.rules.specs.Forms.{NumberFormed, NumberFault, no_number, below, above, ItemsFormed, no_items, all_items, ItemsFault, no_item, out_of_range, no_rise, too_many, out_of_window, Form, number, number_list, window_list, setting_list, FieldFormed, FieldFault, form_at, FieldsFault, plan_forms, act_forms}
 use Rattle.rules.specs.Print.{header_text}
 use Rattle.rules.specs.WellFormed.{HeaderFormed}
 use Rattle.rules.specs.Faults.{line_at, Begins}
@@ -36,13 +36,15 @@ number_apart f (above e l) = let h = f.high in omega arith
 -- nor is a list field
 items_apart : {A : Type 0} {k : Kind A} {n : ℕ} {s : List ℕ} → ItemsFormed k s → ItemsFault k s n → ⊥
 items_apart (no_items e) (no_item d w m f) = d e
-items_apart (no_items e) (outside d u w m f) = d e
+items_apart (no_items e) (out_of_range d u w m f) = d e
 items_apart (no_items e) (no_rise d u r f) = d e
 items_apart (no_items e) (too_many d u r l) = d e
-items_apart (all_items u r h l) (no_item d w m f) = both_ways (u w m) f
-items_apart (all_items u r h l) (outside d v w m f) = both_ways (r w m) f
-items_apart (all_items u r h l) (no_rise d v q f) = f h
-items_apart (all_items u r h l) (too_many d v q m) = omega arith
+items_apart (no_items e) (out_of_window d u r h l w m f) = d e
+items_apart (all_items u r h l i) (no_item d w m f) = both_ways (u w m) f
+items_apart (all_items u r h l i) (out_of_range d v w m f) = both_ways (r w m) f
+items_apart (all_items u r h l i) (no_rise d v q f) = f h
+items_apart (all_items u r h l i) (too_many d v q m) = omega arith
+items_apart (all_items u r h l i) (out_of_window d v q g k w m f) = both_ways (i w m) f
 
 -- what is read has a value where there is no fault, and none where there is no value
 is_read_lem : {A : Type 0} {P : A → Type 0} {F : ℕ → Type 0} {m : Read A} → Says P F m → ((k : ℕ) → F k → ⊥) → is_read m ≡ true
@@ -159,9 +161,10 @@ module _ (s : List ℕ) (n : ℕ) where
   of_list : {A : Type 0} {kind : Kind A} {k : ℕ} {w : List ℕ} → ItemsFault kind w k → field_of (horizon_of s) k n (line_at s n) ≡ wrong_field (horizon_of s) n (line_at s n)
   unfolding field_of
   of_list (no_item d v m e) = refl
-  of_list (outside d u v m e) = refl
+  of_list (out_of_range d u v m e) = refl
   of_list (no_rise d u r f) = refl
   of_list (too_many d u r l) = refl
+  of_list (out_of_window d u r h l v m e) = refl
 
   of_field : (form : Form) (w : List ℕ) (k : ℕ) → FieldFault form w k → field_of (horizon_of s) k n (line_at s n) ≡ wrong_field (horizon_of s) n (line_at s n)
   of_field (number lo hi) w k g = of_number g

@@ -15,7 +15,7 @@ use Rattle.wording.specs.Writing.{together}
 unfoldable pub horizon_of : List ℕ → ℕ
 horizon_of s = read_number (number_field 1 4096 (field (fields (line_at s 1)) 1))
 
--- the field of line n, the bytes l, that draws 3, 4 or 8 in a plan of this horizon
+-- the field of line n, the bytes l, that draws 3, 4, 8 or 13 in a plan of this horizon
 unfoldable pub wrong_field : ℕ → ℕ → List ℕ → ℕ
 wrong_field horizon n l =
     cond (eqb n 1) (first_wrong 1 (plan_fields (fields l))) (first_wrong 1 (act_fields horizon (fields l)))

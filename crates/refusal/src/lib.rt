@@ -42,7 +42,7 @@ impl<'a> Line<'a> {
         &self.bytes[..self.bytes.len().saturating_sub(1)]
     }
 
-    // The field that draws 3, 4 or 8, in a plan of this horizon.
+    // The field that draws 3, 4, 8 or 13, in a plan of this horizon.
     #[tactic(auto, unfolding(crate::specs::Refused::wrong_field, rules::specs::Lines::fields))]
     fn wrong_field(&self, horizon: u32) -> Option<u32>
         ensures { result ≡ field_in (wrong_field horizon self.now.number self.now.bytes.now) }

@@ -12,7 +12,7 @@ use Rattle.rules.specs.Number.{decimal}
 use Rattle.rules.specs.Lines.{behind, parted, line_of}
 use Rattle.rules.specs.Refusals.{number_of}
 use Rattle.rules.specs.declared.Fault.{Fault}
-use Rattle.rules.specs.declared.Fault.TheVariants.{TooLong, NotFormed, Malformed, OutOfRange, TooMany, Repeated, Misplaced, NotRising, OutOfReach, NoRoom, NoPlace, NoSet}
+use Rattle.rules.specs.declared.Fault.TheVariants.{TooLong, NotFormed, Malformed, OutOfRange, TooMany, Repeated, Misplaced, NotRising, OutOfReach, NoRoom, NoPlace, NoSet, OutOfWindow}
 use Rattle.rules.specs.Plan.{Header, Plan, Schedule}
 use Rattle.rules.specs.MeetsB.{projection}
 use Rattle.rules.specs.MeetsV.{total_volume}
@@ -22,7 +22,7 @@ use Rattle.rules.specs.declared.Outcome.{Outcome}
 use Rattle.rules.specs.declared.Outcome.TheVariants.{Placed, Refused}
 use Rattle.rules.specs.declared.Projection.{Projection}
 use Rattle.rules.proofs.Decimal.{decimal_length}
-use Rattle.rules.proofs.ReportSize.{ProjectionSmall, lines_length, end_fields_length}
+use Rattle.rules.proofs.ReportSize.{ProjectionSmall, outcome_lines_length, end_fields_length}
 use Rattle.activity.specs.View.{activity_view}
 use Rattle.activity.specs.declared.Activity.{Activity as ActivityStruct}
 use Rattle.plan.specs.View.{plan_view}
@@ -52,7 +52,7 @@ end_text_is h count n v p ps e f g = λ i. end_text (e i) (count - e i) (f i) (g
 
 -- the lines of the first places, and an end line, are short
 pub lines_short : (p : Plan) → Placeable p → (k : ℕ) → k ≤ length p.activities → length (outcome_lines p k) ≤ k * line_most
-lines_short p F = lines_length p F.header F.each
+lines_short p F = outcome_lines_length p F.header F.each
 
 pub end_short : (n m v : ℕ) (p : Projection) → n ≤ 64 → m ≤ 64 → v ≤ 1000000000 → ProjectionSmall p → length (end_text n m p v) ≤ end_most
 unfolding end_text
@@ -74,7 +74,7 @@ end_joined w n m v p =
     ∙ simp (append_assoc, append-nil) refl
 
 -- the `no` line is short, too
-fault_few : (f : Fault) → number_of f ≤ 12
+fault_few : (f : Fault) → number_of f ≤ 13
 fault_few TooLong = omega arith
 fault_few NotFormed = omega arith
 fault_few Malformed = omega arith
@@ -87,6 +87,7 @@ fault_few OutOfReach = omega arith
 fault_few NoRoom = omega arith
 fault_few NoPlace = omega arith
 fault_few NoSet = omega arith
+fault_few OutOfWindow = omega arith
 
 pub no_short : (f : Fault) (line : ℕ) → line < 2 ^ 32 → length (no_text (number_of f) line) ≤ report_most
 unfolding no_text line_of parted behind

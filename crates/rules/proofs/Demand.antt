@@ -9,12 +9,11 @@ use lib.ListN.{length, get_or}
 use borrow.Author.Tests.{lt-leb, le-ltb}
 use Rattle.rules.specs.Plan.{Header, Activity, Plan, Schedule, end as ends}
 use Rattle.rules.specs.Lines.{lines}
-use Rattle.rules.specs.Order.{order}
 use Rattle.rules.specs.MeetsB.{projection}
-use Rattle.rules.specs.Outcomes.{no_activity, reply, added, activity_at, placed, outcome, finished}
+use Rattle.rules.specs.Outcomes.{reply, added, activity_at, placed, outcome, finished}
 use Rattle.rules.specs.Report.{outcome_line, outcome_lines, end_line, report, answer_to, output}
 use Rattle.rules.specs.Calls.{outcome_of, outcome_call, report_of, report_call, runs, starts_of, starts_call}
-use Rattle.rules.specs.WellFormed.{ActivityFormed, WellFormed, Reachable}
+use Rattle.rules.specs.WellFormed.{WellFormed, Reachable}
 use Rattle.rules.specs.Demand.{Right, nth, placed_by, lines_by, report_by, RunsBy, DemandThree}
 use Rattle.rules.specs.declared.Outcome.{Outcome}
 use Rattle.rules.specs.declared.Outcome.TheVariants.{Placed, Refused}
@@ -25,8 +24,7 @@ use Rattle.rules.proofs.Limits.{limits}
 use Rattle.rules.proofs.Projecting.{projected_right}
 use Rattle.rules.proofs.Runs.{runs_right}
 use Rattle.rules.proofs.SameRuns.{call_few}
-use Rattle.rules.proofs.Order.{order_right, order_length}
-use Rattle.rules.proofs.ListAt.{at_mem}
+use Rattle.rules.proofs.PlaceFacts.{place_formed}
 use Rattle.rules.proofs.ReportLines.{line_of_place, lines_behind, lines_count, end_line_lem}
 use Rattle.rules.proofs.Accepted.{accepted_formed}
 
@@ -62,7 +60,7 @@ unfolding placed outcome
 by_outcomes p zero = refl
 by_outcomes p (suc k) = ap (added (reply p.header (placed p k) (activity_at p k)) (activity_at p k)) (by_outcomes p k)
 
-lines_by_lem : (p : Plan) (k : ℕ) → outcome_lines p k ≡ lines_by p (outcome p) k
+pub lines_by_lem : (p : Plan) (k : ℕ) → outcome_lines p k ≡ lines_by p (outcome p) k
 unfolding outcome_lines
 lines_by_lem p zero = refl
 lines_by_lem p (suc k) = ap (λ (l : List ℕ). l ++ outcome_line (activity_at p k) (outcome p k)) (lines_by_lem p k)
@@ -92,14 +90,6 @@ module _ (p : Plan) where
   unfolding report
   last_line =
       ap (λ i. get_or (lines (outcome_lines p n ++ end)) i []) (sym (add-zero n)) ∙ lines_behind p n 0 end ∙ ap (λ ls. get_or ls 0 []) (end_line_lem n (finished p) (projection p.header (finished p)))
-
--- the activity at a place is well formed
-place_formed : (p : Plan) → WellFormed p → (k : ℕ) → k < length p.activities → ActivityFormed p.header (activity_at p k)
-unfolding activity_at
-place_formed p F k h =
-    let O = order_right p.activities in
-    let l : k < length (order p.activities) = rw (order_length p.activities) h in
-    rw (O.same k l) (F.each _ (at_mem no_activity p.activities (O.line k) (O.known k l)))
 
 -- the runs of a place are those beside what the outcomes place
 runs_by : (p : Plan) (k m : ℕ) → RunsBy p (outcome p) k m (runs p k m)

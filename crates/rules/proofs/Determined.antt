@@ -21,6 +21,7 @@ use Rattle.rules.proofs.Acceptance.{refused_not_printed}
 use Rattle.rules.proofs.FaultRefused.{fault_refused}
 use Rattle.rules.proofs.SameAnswers.{same_answer, same_answers}
 use Rattle.rules.proofs.Projecting.{projection_determined, projection_judged}
+use Rattle.rules.proofs.Distance.{distance_determined}
 
 order_determined : (xs : List Activity) → OrderDetermined xs
 order_determined xs = record { exactly = λ ys. (λ e. rw (← e) (order_right xs), order_same xs _ ys (order_right xs)); same = order_same xs }
@@ -62,4 +63,4 @@ module _ (s : List ℕ) where
       }
 
 pub determined : Determined
-determined = record { order = order_determined; runs = runs_determined; projection = projection_determined; judged = projection_judged; answer = answer_determined; answers = same_answers; file = file_determined }
+determined = record { order = order_determined; runs = runs_determined; projection = projection_determined; judged = projection_judged; distance = distance_determined; answer = answer_determined; answers = same_answers; file = file_determined }

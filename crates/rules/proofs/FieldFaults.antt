@@ -3,8 +3,8 @@
 use Prim.Native.Nat.{ℕ, suc}
 use mathlib.Core.Path.{◌≡◌, refl, ◌∙◌}
 use mathlib.Core.Logic.{◌≢◌}
-use mathlib.Core.Bool.{true, false, ◌&&◌}
-use mathlib.Core.List.{List, [], map}
+use mathlib.Core.Bool.{Bool, true, false, ◌&&◌}
+use mathlib.Core.List.{List, [], map, Memᴰ}
 use native.Mathlib.Omega.{arith}
 use lib.Dec.{leb}
 use lib.ListN.{length}
@@ -17,7 +17,7 @@ use Rattle.rules.specs.Plan.{Header}
 use Rattle.rules.specs.Fields.{Read, value, fault, within, number_field, Kind, numbers, window_kind, setting_kind, rising, items, list_field}
 use Rattle.rules.specs.HeaderLine.{header_of}
 use Rattle.rules.specs.ActivityLine.{activity_of}
-use Rattle.rules.specs.Forms.{LineFormed, NumberFormed, NumberFault, no_number, below, above, Written, Ranged, ItemsFormed, no_items, all_items, ItemsFault, no_item, outside, no_rise, too_many, Form, number, number_list, window_list, setting_list, FieldFormed, FieldFault, form_at, FieldsFault, plan_forms, act_forms}
+use Rattle.rules.specs.Forms.{LineFormed, NumberFormed, NumberFault, no_number, below, above, Written, Ranged, ItemsFormed, no_items, all_items, ItemsFault, no_item, out_of_range, no_rise, too_many, out_of_window, Form, number, number_list, window_list, setting_list, FieldFormed, FieldFault, form_at, FieldsFault, plan_forms, act_forms}
 use Rattle.rules.proofs.Tests.{and_left, and_right, both_ways, is_false, every_mem}
 use Rattle.rules.proofs.Cases.{by_order}
 use Rattle.rules.proofs.Every.{every_all}
@@ -58,34 +58,35 @@ module _ {A : Type 0} (k : Kind A) (s : List ℕ) where
   not_dash : s ≢ bytes "-" → same s (bytes "-") ≡ false
   not_dash d = is_false (same s (bytes "-")) (λ e. d (same_eq s (bytes "-") e))
 
-  each_ranged : Ranged k s → every k.in_range xs ≡ true
-  each_ranged r = every_map k.in_range k.item_of parts ∙ every_all (λ w. k.in_range (k.item_of w)) parts r
+  -- every item passes a test
+  each : (p : A → Bool) → ((w : List ℕ) → Memᴰ w parts → p (k.item_of w) ≡ true) → every p xs ≡ true
+  each p r = every_map p k.item_of parts ∙ every_all (λ w. p (k.item_of w)) parts r
+
+  -- not every one does
+  not_each : (p : A → Bool) (w : List ℕ) → Memᴰ w parts → p (k.item_of w) ≡ false → every p xs ≡ false
+  not_each p w m e = every_map p k.item_of parts ∙ is_false (every (λ w. p (k.item_of w)) parts) (λ t. both_ways (every_mem (λ w. p (k.item_of w)) parts t m) e)
 
   list_value : ItemsFormed k s → (ys : List A) × (list_field k s ≡ value ys)
   unfolding list_field items
   list_value (no_items e) = ([], rw (eq_same s (bytes "-") e))
-  list_value (all_items w r u l) =
+  list_value (all_items w r u l i) =
       by_test (λ m. (ys : List A) × (m ≡ value ys)) (same s (bytes "-"))
       (λ e. ([], refl))
-      (λ e. (xs, rw (every_all k.is_item parts w, each_ranged r, rises_test k.low k.high 0 xs u, le-leb (length parts) k.most l)))
+      (λ e. (xs, rw (every_all k.is_item parts w, each k.in_range r, rises_test k.low k.high 0 xs u, le-leb (length parts) k.most l, each k.in_window i)))
 
   -- 8, where they don't rise or are too many
   not_orderly : s ≢ bytes "-" → Written k s → Ranged k s → (rising k.low k.high 0 xs && leb (length parts) k.most ≡ true → ⊥) → list_field k s ≡ fault 8
   unfolding list_field items
-  not_orderly d u r f = rw (not_dash d, every_all k.is_item parts u, each_ranged r, is_false (rising k.low k.high 0 xs && leb (length parts) k.most) f)
+  not_orderly d u r f = rw (not_dash d, every_all k.is_item parts u, each k.in_range r, is_false (rising k.low k.high 0 xs && leb (length parts) k.most) f)
 
   list_fault : {n : ℕ} → ItemsFault k s n → list_field k s ≡ fault n
   unfolding list_field items
   list_fault (no_item d w m e) = rw (not_dash d, is_false (every k.is_item parts) (λ t. both_ways (every_mem k.is_item parts t m) e))
-  list_fault (outside d u w m e) =
-      rw (
-        not_dash d,
-        every_all k.is_item parts u,
-        every_map k.in_range k.item_of parts,
-        is_false (every (λ w. k.in_range (k.item_of w)) parts) (λ t. both_ways (every_mem (λ w. k.in_range (k.item_of w)) parts t m) e),
-      )
+  list_fault (out_of_range d u w m e) = rw (not_dash d, every_all k.is_item parts u, not_each k.in_range w m e)
   list_fault (no_rise d u r f) = not_orderly d u r (λ t. f (rising_rises k.low k.high 0 xs (and_left _ _ t)))
   list_fault (too_many d u r l) = not_orderly d u r (λ t. both_ways (and_right (rising k.low k.high 0 xs) _ t) (lt-leb (length parts) k.most l))
+  list_fault (out_of_window d u r o l w m e) =
+      rw (not_dash d, every_all k.is_item parts u, each k.in_range r, rises_test k.low k.high 0 xs o, le-leb (length parts) k.most l, not_each k.in_window w m e)
 
   list_right : {n : ℕ} → ItemsFormed k s → ItemsFault k s n → ⊥
   list_right f g = no_fault (list_value f).1 (list_fault g)

@@ -14,7 +14,7 @@ use Rattle.rules.specs.Reading.{Reading, accepted, refused, reading}
 use Rattle.rules.specs.Report.{report}
 use Rattle.rules.specs.Calls.{Filled, full, refusing, filling, report_of, report_call, runs, starts_of, starts_call}
 use Rattle.rules.specs.Refusals.{Refusal}
-use Rattle.rules.proofs.Refusing.{reading_number}
+use Rattle.rules.proofs.Refusing.{file_number, reading_number}
 
 -- a slice of `room` elements is rightly filled
 pub record FilledRight {A : Type 0} (room : ℕ) (f : Filled A) : Type 0 where
@@ -52,8 +52,8 @@ starts_right (accepted p) k m room h =
 
 pub report_call_right : (s : List ℕ) (room : ℕ) → FilledRight room (report_call s room)
 unfolding report_call
-report_call_right s room = report_right (reading s) room (λ r e. (reading_number s r e).0)
+report_call_right s room = report_right (reading s) room (λ r e. (file_number r.number (reading_number s r e)).0)
 
 pub starts_call_right : (s : List ℕ) (k m room : ℕ) → FilledRight room (starts_call s k m room)
 unfolding starts_call
-starts_call_right s k m room = starts_right (reading s) k m room (λ r e. (reading_number s r e).0)
+starts_call_right s k m room = starts_right (reading s) k m room (λ r e. (file_number r.number (reading_number s r e)).0)

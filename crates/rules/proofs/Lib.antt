@@ -24,7 +24,7 @@ pub mod Filling
 pub mod Decimal
 pub mod Parted
 pub mod ListBack
-pub mod PairBack
+pub mod NumbersBack
 pub mod LineBack
 pub mod Short
 pub mod Ids
@@ -48,5 +48,6 @@ pub mod ReportSize
 pub mod Demand
 pub mod SameAnswers
 pub mod Determined
+pub mod Distance
 pub mod Ordered
 pub mod Samples

@@ -23,7 +23,7 @@ use Rattle.rules.proofs.Tests.{and_both}
 use Rattle.rules.proofs.Every.{every_weaker}
 use Rattle.rules.proofs.Parted.{free, low_byte, decimal_free, lines_line, fields_line, ended_line}
 use Rattle.rules.proofs.ListBack.{number_back, Writes, list_back, list_free}
-use Rattle.rules.proofs.PairBack.{writes_number, writes_window, writes_setting}
+use Rattle.rules.proofs.NumbersBack.{writes_number, writes_window, writes_setting}
 
 -- the fields hold neither tab nor LF, and what is read of them is a
 record Reads {A : Type 0} (fs : List (List ℕ)) (r : Read A) (a : A) : Type 0 where

@@ -27,9 +27,10 @@ number_back lo hi x l h s = rw (decimal_number x s, decimal_value x (omega arith
 
 -- ---- a list of any items
 
--- how items of this kind are written: each in its range is an item that reads back as itself, has a byte, and none below the digits
+-- how items of this kind are written: each in its range is in its window, is an item that reads back as itself, has a byte, and none below the digits
 pub record Writes {A : Type 0} (k : Kind A) (InRange : A → Type 0) (write : A → List ℕ) : Type 0 where
   pub range : (x : A) → InRange x → k.in_range x ≡ true
+  pub window : (x : A) → InRange x → k.in_window x ≡ true
   pub item : (x : A) → InRange x → k.is_item (write x) ≡ true
   pub back : (x : A) → InRange x → k.item_of (write x) ≡ x
   pub some : (x : A) → InRange x → 1 ≤ length (write x)
@@ -41,6 +42,12 @@ unfolding rising
 rises_test low high least [] r = refl
 rises_test low high least (x ∷ xs) r =
     and_both (and_both (le-leb least (low x) r.0) (le-leb (low x) (high x) r.1)) (rises_test low high (suc (high x)) xs r.2)
+
+-- of items that rise, none is below the least
+pub rises_least : {A : Type 0} (low high : A → ℕ) (least : ℕ) (xs : List A) {x : A} → Rises low high least xs → Memᴰ x xs → least ≤ low x
+rises_least low high least [] r m = elim m [ ]
+rises_least low high least (y ∷ xs) r (Memᴰ.head q) = rw q r.0
+rises_least low high least (y ∷ xs) r (Memᴰ.tail m) = let l = rises_least low high (suc (high y)) xs r.2 m in omega (arith, r.0, r.1, l)
 
 -- a text with a byte, and no `-` in it, is not `-`
 not_dash : (w v : List ℕ) → 1 ≤ length w → free 45 w ≡ true → same (w ++ v) (bytes "-") ≡ false
@@ -65,6 +72,7 @@ module _ {A : Type 0} (k : Kind A) (InRange : A → Type 0) (write : A → List 
         rises_test k.low k.high 0 xs f.rises,
         length-map xs write,
         le-leb (length xs) k.most f.few,
+        every_all k.in_window xs (λ x m. w.window x (f.in_range x m)),
       )
 
   -- no item holds a byte below the digits

@@ -12,14 +12,15 @@ use lib.Dec.{eqb}
 use lib.ListN.{length, get_or}
 use borrow.Author.Tests.{eqb-true, eqb-false, eq-eqb, ne_eqb}
 use Rattle.rules.specs.Tests.{every, any_of}
-use Rattle.rules.specs.Plan.{Activity}
+use Rattle.rules.specs.Plan.{Activity, Plan}
 use Rattle.rules.specs.Order.{order}
 use Rattle.rules.specs.OrderRight.{OrderRight}
-use Rattle.rules.specs.Outcomes.{no_activity}
+use Rattle.rules.specs.Outcomes.{no_activity, activity_at}
+use Rattle.rules.specs.WellFormed.{ActivityFormed, WellFormed}
 use Rattle.rules.specs.Reading.{has_id, misplaced, line_number}
 use Rattle.rules.proofs.Tests.{both_ways, every_mem}
 use Rattle.rules.proofs.Cases.{by_order}
-use Rattle.rules.proofs.Order.{order_right}
+use Rattle.rules.proofs.Order.{order_right, order_length}
 use Rattle.rules.proofs.Says.{by_test, either_way, one_out}
 use Rattle.rules.proofs.ListAt.{or_none, mem_at, at_mem}
 
@@ -104,6 +105,11 @@ order_mem {x} xs m =
     let r = mem_at no_activity m in
     let o : OrderRight xs (order xs) = order_right xs in
     subst (λ (y : Activity). Memᴰ y xs) (sym (o.same r.0 r.1) ∙ r.2) (at_mem no_activity xs (o.line r.0) (o.known r.0 r.1))
+
+-- the activity at a place of a well-formed plan is well formed
+pub place_formed : (p : Plan) → WellFormed p → (k : ℕ) → k < length p.activities → ActivityFormed p.header (activity_at p k)
+unfolding activity_at
+place_formed p F k h = F.each _ (order_mem p.activities (at_mem no_activity (order p.activities) k (omega (arith, order_length p.activities))))
 
 -- the first activity of this id, at index i, stands on line n + i
 pub line_number_lem : (id n i : ℕ) (xs : List Activity) → i < length xs → (get_or xs i no_activity).id ≡ id → ((j : ℕ) → j < i → (get_or xs j no_activity).id ≢ id) → line_number id n xs ≡ n + i

@@ -19,12 +19,13 @@ use Rattle.rules.specs.Bytes.{bytes}
 use Rattle.rules.specs.Number.{decimal}
 use Rattle.rules.specs.Outcomes.{activity_at, placed, outcome}
 use Rattle.rules.specs.Report.{outcome_line, outcome_lines, end_line}
-use Rattle.rules.specs.Demand.{Right, ChargeKept}
+use Rattle.rules.specs.Demand.{Right, ChargeKept, lines_by}
 use Rattle.rules.specs.declared.Outcome.{Outcome}
 use Rattle.rules.specs.declared.Outcome.TheVariants.{Placed, Refused}
 use Rattle.rules.specs.declared.Projection.{Projection}
 use Rattle.rules.proofs.Answers.{replied}
 use Rattle.rules.proofs.Decimal.{decimal_length}
+use Rattle.rules.proofs.Demand.{lines_by_lem}
 use Rattle.rules.proofs.Level.{charge_most}
 use Rattle.rules.proofs.Projecting.{projected_right}
 use Rattle.rules.proofs.Signed.{signed}
@@ -39,20 +40,23 @@ letters_few c (x ∷ xs) m = go (has m c) (letters_few (suc c) xs m)
     go false ih = omega arith
 
 -- ---- the line of an activity: `65535⇥refused⇥WDUSEPBVH` and the LF
-pub outcome_length : (h : Header) (ps : Schedule) (a : Activity) → HeaderFormed h → ActivityFormed h a → (o : Outcome) → Right h ps a o → length (outcome_line a o) ≤ 24
+outcome_length : (h : Header) (ps : Schedule) (a : Activity) → HeaderFormed h → ActivityFormed h a → (o : Outcome) → Right h ps a o → length (outcome_line a o) ≤ 24
 unfolding outcome_line line_of parted behind letters_of condition_letters
 outcome_length h ps a H F (Placed s) R =
     let inside = (R.placed s refl).valid.start in
     simp length-append (omega (arith, decimal_length 4 a.id (omega (arith, F.id)), decimal_length 3 s (omega (arith, inside, H.horizon)), decimal_length 3 (end (at a s)) (omega (arith, inside, H.horizon))))
 outcome_length h ps a H F (Refused m) R = simp length-append (omega (arith, decimal_length 4 a.id (omega (arith, F.id)), letters_few 0 condition_letters m))
 
--- ---- the lines of the first k places
+-- ---- the lines of the first k places, each answered rightly beside some schedule
 module _ (p : Plan) (H : HeaderFormed p.header) (each : (k : ℕ) → k < length p.activities → ActivityFormed p.header (activity_at p k)) where
-  pub lines_length : (k : ℕ) → k ≤ length p.activities → length (outcome_lines p k) ≤ k * 24
-  unfolding outcome_lines outcome
-  lines_length zero l = omega arith
-  lines_length (suc k) l =
-      simp length-append (omega (arith, lines_length k (omega arith), outcome_length p.header (placed p k) (activity_at p k) H (each k l) _ (replied p.header (placed p k) (activity_at p k))))
+  pub lines_length : (answers : ℕ → Outcome) (before : ℕ → Schedule) → ((k : ℕ) → k < length p.activities → Right p.header (before k) (activity_at p k) (answers k)) → (k : ℕ) → k ≤ length p.activities → length (lines_by p answers k) ≤ k * 24
+  lines_length answers before right zero l = omega arith
+  lines_length answers before right (suc k) l =
+      simp length-append (omega (arith, lines_length answers before right k (omega arith), outcome_length p.header (before k) (activity_at p k) H (each k l) (answers k) (right k l)))
+
+  pub outcome_lines_length : (k : ℕ) → k ≤ length p.activities → length (outcome_lines p k) ≤ k * 24
+  unfolding outcome
+  outcome_lines_length k l = rw (lines_by_lem p k) (lines_length (outcome p) (placed p) (λ i _. replied p.header (placed p i) (activity_at p i)) k l)
 
 -- ---- the end line
 abs_most : (z : ℤ) (c : ℕ) → pos 0 ≤ℤ z → z ≤ℤ pos c → nat_abs z ≤ c

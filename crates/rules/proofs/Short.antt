@@ -2,7 +2,7 @@
 -- Assumes nothing.
 use mathlib.Core.Path.{refl}
 use mathlib.Core.List.{List, [], ◌∷◌, map, Memᴰ}
-use Prim.Native.Nat.{ℕ, suc, ◌*◌, ◌^◌, ◌≤◌, ◌<◌}
+use Prim.Native.Nat.{ℕ, suc, ◌+◌, ◌*◌, ◌^◌, ◌≤◌, ◌<◌}
 use native.Mathlib.Nat.{suc-mul, mul-le-mul_right}
 use native.Mathlib.Omega.{arith}
 use lib.ListN.{length, length-append}
@@ -12,15 +12,21 @@ use Rattle.rules.specs.Lines.{behind, parted, line_of}
 use Rattle.rules.specs.Print.{list_text, window_text, setting_text, header_text, activity_text, activities_text, plan_text}
 use Rattle.rules.specs.WellFormed.{ListFormed, HeaderFormed, ActivityFormed, WellFormed}
 use Rattle.rules.proofs.Decimal.{decimal_length}
+use Rattle.rules.proofs.NumbersBack.{Small}
 
 -- a number in range has up to ten digits
 ten : (x : ℕ) → x < 10 ^ 10 → length (decimal x) ≤ 10
 ten = decimal_length 9
 
--- two of them with a byte between
-pair : (b x y : ℕ) → (x < 10 ^ 10) × (y < 10 ^ 10) → length (parted b (decimal x ∷ decimal y ∷ [])) ≤ 21
-unfolding parted behind
-pair b x y h = simp length-append (omega (arith, ten x h.0, ten y h.1))
+-- some of them with a byte between each two
+numbers_behind : (b : ℕ) (xs : List ℕ) → Small xs → length (behind b (map decimal xs)) ≤ length xs * 11
+unfolding behind
+numbers_behind b [] s = omega arith
+numbers_behind b (x ∷ xs) s = simp (length-append, suc-mul) (omega (arith, ten x s.0, numbers_behind b xs s.1))
+
+numbers_length : (b x : ℕ) (xs : List ℕ) → Small (x ∷ xs) → length (parted b (map decimal (x ∷ xs))) ≤ 10 + length xs * 11
+unfolding parted
+numbers_length b x xs s = simp length-append (omega (arith, ten x s.0, numbers_behind b xs s.1))
 
 -- items of up to m bytes, each behind a byte
 behind_length : {A : Type 0} (write : A → List ℕ) (b m : ℕ) (xs : List A) → ((x : A) → Memᴰ x xs → length (write x) ≤ m) → length (behind b (map write xs)) ≤ length xs * suc m
@@ -62,7 +68,7 @@ header_length h g =
     ))
 
 -- the word, nine numbers, five lists, each behind a tab, and the LF
-activity_length : (h : Header) (a : Activity) → HeaderFormed h → ActivityFormed h a → length (activity_text a) ≤ 817
+activity_length : (h : Header) (a : Activity) → HeaderFormed h → ActivityFormed h a → length (activity_text a) ≤ 861
 unfolding activity_text line_of parted behind window_text setting_text
 activity_length h a g f =
     simp length-append (omega (
@@ -71,11 +77,11 @@ activity_length h a g f =
       ten a.priority (omega arith),
       ten a.duration (omega arith),
       ten a.preferred (omega arith),
-      list_length window_text 21 (λ w r. pair 58 w.from w.to (omega arith)) a.windows f.windows,
+      list_length window_text 32 (λ w r. numbers_length 58 w.from (w.preferred ∷ w.to ∷ []) (omega (arith, r.from), (omega (arith, r.preferred, r.to), (omega (arith, r.to), tt)))) a.windows f.windows,
       list_length decimal 10 (λ x r. ten x (omega arith)) a.after f.after,
       list_length decimal 10 (λ x r. ten x (omega arith)) a.units f.units,
-      list_length setting_text 21 (λ x r. pair 61 x.variable x.value (omega arith)) a.needs f.needs,
-      list_length setting_text 21 (λ x r. pair 61 x.variable x.value (omega arith)) a.sets f.sets,
+      list_length setting_text 21 (λ x r. numbers_length 61 x.variable (x.value ∷ []) (omega arith, (omega arith, tt))) a.needs f.needs,
+      list_length setting_text 21 (λ x r. numbers_length 61 x.variable (x.value ∷ []) (omega arith, (omega arith, tt))) a.sets f.sets,
       ten a.engines (omega arith),
       ten a.peak (omega arith),
       ten a.draw (omega arith),
@@ -84,7 +90,7 @@ activity_length h a g f =
     ))
 
 -- the activity lines
-activities_length : (h : Header) (g : HeaderFormed h) (xs : List Activity) → ((a : Activity) → Memᴰ a xs → ActivityFormed h a) → length (activities_text xs) ≤ length xs * 817
+activities_length : (h : Header) (g : HeaderFormed h) (xs : List Activity) → ((a : Activity) → Memᴰ a xs → ActivityFormed h a) → length (activities_text xs) ≤ length xs * 861
 unfolding activities_text
 activities_length h g [] f = omega arith
 activities_length h g (a ∷ xs) f =

@@ -10,7 +10,7 @@ use Rattle.rules.specs.Calls.{Terms, refusal, full, outcome_values, outcome_term
 use Rattle.rules.specs.declared.Outcome.{Outcome}
 use Rattle.rules.specs.declared.Outcome.TheVariants.{Placed, Refused}
 use Rattle.rules.specs.declared.Fault.{Fault}
-use Rattle.rules.specs.declared.Fault.TheVariants.{TooLong, NotFormed, Malformed, OutOfRange, TooMany, Repeated, Misplaced, NotRising, OutOfReach, NoRoom, NoPlace, NoSet}
+use Rattle.rules.specs.declared.Fault.TheVariants.{TooLong, NotFormed, Malformed, OutOfRange, TooMany, Repeated, Misplaced, NotRising, OutOfReach, NoRoom, NoPlace, NoSet, OutOfWindow}
 use Rattle.rules.specs.declared.Refusal.{Refusal as RefusalStruct}
 use Rattle.rules.specs.Refusals.{number_of}
 use Rattle.std.specs.Prelude.{Result, Ok, Err, cond, eqb}
@@ -23,11 +23,11 @@ told_apart v vs k n e = let f : v ∷ vs ≡ [] = ap (λ t. t.values) e in let z
 -- the fault of a number
 fault_of : ℕ → Fault
 fault_of n =
-    cond (eqb n 1) TooLong (cond (eqb n 2) NotFormed (cond (eqb n 3) Malformed (cond (eqb n 4) OutOfRange (cond (eqb n 5) TooMany (cond (eqb n 6) Repeated (cond (eqb n 7) Misplaced (cond (eqb n 8) NotRising (cond (eqb n 9) OutOfReach (cond (eqb n 10) NoRoom (cond (eqb n 11) NoPlace NoSet))))))))))
+    cond (eqb n 1) TooLong (cond (eqb n 2) NotFormed (cond (eqb n 3) Malformed (cond (eqb n 4) OutOfRange (cond (eqb n 5) TooMany (cond (eqb n 6) Repeated (cond (eqb n 7) Misplaced (cond (eqb n 8) NotRising (cond (eqb n 9) OutOfReach (cond (eqb n 10) NoRoom (cond (eqb n 11) NoPlace (cond (eqb n 12) NoSet OutOfWindow)))))))))))
 
 fault_back : (f : Fault) → fault_of (number_of f) ≡ f
 unfolding fault_of
-fault_back = elim [ TooLong ↦ refl | NotFormed ↦ refl | Malformed ↦ refl | OutOfRange ↦ refl | TooMany ↦ refl | Repeated ↦ refl | Misplaced ↦ refl | NotRising ↦ refl | OutOfReach ↦ refl | NoRoom ↦ refl | NoPlace ↦ refl | NoSet ↦ refl ]
+fault_back = elim [ TooLong ↦ refl | NotFormed ↦ refl | Malformed ↦ refl | OutOfRange ↦ refl | TooMany ↦ refl | Repeated ↦ refl | Misplaced ↦ refl | NotRising ↦ refl | OutOfReach ↦ refl | NoRoom ↦ refl | NoPlace ↦ refl | NoSet ↦ refl | OutOfWindow ↦ refl ]
 
 -- faults of one number are the same
 pub same_fault : (f g : Fault) → number_of f ≡ number_of g → f ≡ g

@@ -45,9 +45,9 @@ module _ (h : Header) (before : Schedule) (a : Activity) where
   -- a is rightly placed at s
   pub record PlacedAt (s : ℕ) : Type 0 where
     pub valid : Valid s
-    -- "no other valid start is nearer its preferred tick"
+    -- "no other valid start is nearer its preferred tick", where "nearer" means by `distance` (02, [2])
     pub nearest : (r : ℕ) → Valid r → distance a s ≤ distance a r
-    -- "of two equally near it has the earlier"
+    -- "of two equally near it has the earlier"; "Ties go to the earlier start" (02, [2])
     pub earlier : (r : ℕ) → Valid r → distance a r ≡ distance a s → s ≤ r
 
   -- o is the right answer

@@ -1,4 +1,4 @@
--- The facts determine the scheduling order, the runs, the charge projection, the answer to an activity, and what is read of a file: they hold of these and of nothing else. Whoever reads the facts (OrderRight, RunsRight, ProjectionRight, ChargeKept, Right, TextOf, Fault) need not read Order, Runs, the projection in MeetsB (from `further` on), Answer, HeaderLine, ActivityLine and Reading, which say how these are found.
+-- The facts determine the scheduling order, the runs, the charge projection, the answer to an activity, and what is read of a file: they hold of these and of nothing else. Whoever reads the facts (OrderRight, RunsRight, ProjectionRight, ChargeKept, DistanceRight, Right, TextOf, Fault) need not read Order, Runs, the projection in MeetsB (from `further` on), the distance in Outcomes (`preferred_at` and `distance`), Answer, HeaderLine, ActivityLine and Reading, which say how these are found.
 use Rattle.std.specs.Prelude.{ℕ, ◌<◌, ◌≤◌, ◌≡◌, ◌↔◌, ◌⊎◌, Bool, true, List, [], ◌∷◌, ℤ, pos, ◌<ℤ◌, length}
 use Rattle.rules.specs.Plan.{Header, Activity, Plan, Schedule, at}
 use Rattle.rules.specs.Order.{order}
@@ -7,12 +7,13 @@ use Rattle.rules.specs.Runs.{runs_from}
 use Rattle.rules.specs.RunsRight.{RunsRight}
 use Rattle.rules.specs.MeetsB.{charge, projected, charge_kept, meets_b}
 use Rattle.rules.specs.ProjectionRight.{ProjectionRight}
-use Rattle.rules.specs.Outcomes.{reply}
+use Rattle.rules.specs.Outcomes.{distance, reply}
+use Rattle.rules.specs.DistanceRight.{DistanceRight}
 use Rattle.rules.specs.Reading.{accepted, no, out_of_reach, reading}
 use Rattle.rules.specs.Print.{plan_text}
-use Rattle.rules.specs.WellFormed.{WellFormed, Reachable}
+use Rattle.rules.specs.WellFormed.{ActivityFormed, WellFormed, Reachable}
 use Rattle.rules.specs.Faults.{Fault}
-use Rattle.rules.specs.Demand.{Right, ChargeKept, RightAnswers, placed_by, report_by}
+use Rattle.rules.specs.Demand.{Valid, Right, ChargeKept, RightAnswers, placed_by, report_by}
 use Rattle.rules.specs.declared.Outcome.{Outcome}
 use Rattle.rules.specs.declared.Interval.{Interval}
 use Rattle.rules.specs.declared.Projection.{Projection}
@@ -39,6 +40,11 @@ pub record ProjectionJudged (h : Header) : Type 0 where
   pub candidate : (placed : Schedule) (a : Activity) (s : ℕ) → (meets_b h placed a s ≡ true) ↔ ChargeKept h (at a s ∷ placed)
   pub whole : (placed : Schedule) → (charge_kept h placed ≡ true) ↔ ChargeKept h placed
   pub reach : (out_of_reach h ≡ true) ↔ (charge h [] h.horizon <ℤ pos h.handover)
+
+-- the distance is right, and every distance that is right is the same at every valid start: that of a start in no window, which the facts leave open, matters to no answer
+pub record DistanceDetermined (h : Header) (a : Activity) : Type 0 where
+  pub right : DistanceRight a (distance a)
+  pub same : (before : Schedule) (d : ℕ → ℕ) → DistanceRight a d → (s : ℕ) → Valid h before a s → d s ≡ distance a s
 
 -- so is the answer to the activity a beside a schedule
 pub record AnswerDetermined (h : Header) (before : Schedule) (a : Activity) : Type 0 where
@@ -73,6 +79,7 @@ pub record Determined : Type 0 where
   pub runs : (pass : ℕ → Bool) (n : ℕ) → RunsDetermined pass n
   pub projection : (c : ℕ → ℤ) (n : ℕ) → ProjectionDetermined c n
   pub judged : (h : Header) → ProjectionJudged h
+  pub distance : (h : Header) (a : Activity) → ActivityFormed h a → DistanceDetermined h a
   pub answer : (h : Header) (before : Schedule) (a : Activity) → AnswerDetermined h before a
   -- two series of answers to a plan, right at every place, are the same
   pub answers : (p : Plan) (answers others : ℕ → Outcome) → RightAnswers p answers → RightAnswers p others → SameAnswers p answers others

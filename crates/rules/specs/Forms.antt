@@ -1,4 +1,4 @@
--- What a line and its fields must be, and what is wrong in a refused one, in plain facts (01, The plan file; When the planner says no: 2, 3, 4, 8).
+-- What a line and its fields must be, and what is wrong in a refused one, in plain facts (01, The plan file; When the planner says no: 2, 3, 4, 8; 02, [2]: 13).
 use Rattle.std.specs.Prelude.{ℕ, suc, ◌-◌, ◌<◌, ◌≤◌, ◌≡◌, ◌≢◌, true, false, length, get_or}
 use mathlib.Core.List.{List, [], ◌∷◌, map, Memᴰ}
 use Rattle.rules.specs.Bytes.{bytes}
@@ -49,17 +49,26 @@ module _ {A : Type 0} (k : Kind A) (s : List ℕ) where
   abbrev pub Rising : Type 0
   Rising = Rises k.low k.high 0 (map k.item_of (split_on 44 s))
 
+  -- they are not too many
+  abbrev pub Few : Type 0
+  Few = length (split_on 44 s) ≤ k.most
+
+  -- each preferred tick is in its window
+  abbrev pub InWindows : Type 0
+  InWindows = (w : List ℕ) → Memᴰ w (split_on 44 s) → k.in_window (k.item_of w) ≡ true
+
   -- the field is a list of this kind
   pub data ItemsFormed : Type 0 where
     no_items : s ≡ bytes "-" → ItemsFormed
-    all_items : Written → Ranged → Rising → length (split_on 44 s) ≤ k.most → ItemsFormed
+    all_items : Written → Ranged → Rising → Few → InWindows → ItemsFormed
 
-  -- it is not: 3, "malformed item"; 4, "number out of range"; 8, "list not rising, a > b, or too many items"; "each 3, 4, 8 over its whole field"
+  -- it is not: 3, "malformed item"; 4, "number out of range"; 8, "list not rising, a > b, or too many items"; "each 3, 4, 8 over its whole field"; 13, "outside its window .. judged with the list faults, after 8"
   pub data ItemsFault : ℕ → Type 0 where
     no_item : s ≢ bytes "-" → (w : List ℕ) → Memᴰ w (split_on 44 s) → k.is_item w ≡ false → ItemsFault 3
-    outside : s ≢ bytes "-" → Written → (w : List ℕ) → Memᴰ w (split_on 44 s) → k.in_range (k.item_of w) ≡ false → ItemsFault 4
+    out_of_range : s ≢ bytes "-" → Written → (w : List ℕ) → Memᴰ w (split_on 44 s) → k.in_range (k.item_of w) ≡ false → ItemsFault 4
     no_rise : s ≢ bytes "-" → Written → Ranged → (Rising → ⊥) → ItemsFault 8
     too_many : s ≢ bytes "-" → Written → Ranged → k.most < length (split_on 44 s) → ItemsFault 8
+    out_of_window : s ≢ bytes "-" → Written → Ranged → Rising → Few → (w : List ℕ) → Memᴰ w (split_on 44 s) → k.in_window (k.item_of w) ≡ false → ItemsFault 13
 
 -- what a field must be: a number from lo to hi; numbers to hi, up to `most`; windows; needs or sets
 pub data Form : Type 0 where

@@ -33,6 +33,7 @@ pub mod Calls
 pub mod OrderRight
 pub mod RunsRight
 pub mod ProjectionRight
+pub mod DistanceRight
 pub mod Demand
 pub mod Print
 pub mod WellFormed

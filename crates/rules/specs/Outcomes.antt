@@ -1,8 +1,9 @@
 -- Outcomes place by place, and the finished schedule (01, Placing and refusing).
-use Rattle.std.specs.Prelude.{ℕ, zero, suc, ◌-◌, [], ◌∷◌, length, get_or}
-use Rattle.rules.specs.Plan.{Header, Activity, Plan, Schedule, at}
+use Rattle.std.specs.Prelude.{ℕ, zero, suc, ◌-◌, cond, List, [], ◌∷◌, length, get_or}
+use Rattle.rules.specs.Plan.{Header, Window, Activity, Plan, Schedule, at}
 use Rattle.rules.specs.Order.{order}
 use Rattle.rules.specs.Warmup.{apart}
+use Rattle.rules.specs.MeetsW.{inside}
 use Rattle.rules.specs.Conditions.{meets}
 use Rattle.rules.specs.Answer.{answer}
 use Rattle.rules.specs.declared.Outcome.{Outcome}
@@ -12,9 +13,14 @@ use Rattle.rules.specs.declared.Outcome.TheVariants.{Placed, Refused}
 unfoldable pub starts : Header → Activity → ℕ
 starts h a = suc h.horizon - a.duration
 
--- "|s − preferred|"
+-- the preferred tick of the start s: "the p of the window holding the start", and the preferred field "when the window list is empty" (02, [2]). Of a start in no window of a list that is not empty it is the field, too, which matters to no answer: no such start meets W
+unfoldable pub preferred_at : ℕ → List Window → ℕ → ℕ
+preferred_at field [] s = field
+preferred_at field (w ∷ ws) s = cond (inside s w) w.preferred (preferred_at field ws s)
+
+-- "|s − preferred|"; "Distance is measured to the p of the window holding the start" (02, [2])
 unfoldable pub distance : Activity → ℕ → ℕ
-distance a s = apart s a.preferred
+distance a s = apart s (preferred_at a.preferred a.windows s)
 
 -- a answered beside those placed
 unfoldable pub reply : Header → Schedule → Activity → Outcome

@@ -23,9 +23,10 @@ pub record Header : Type 0 where
   -- heater draw per tick
   pub heater : ℕ
 
--- `a:b`
+-- `a:p:b`, with its preferred tick p (02, [2])
 pub record Window : Type 0 where
   pub from : ℕ
+  pub preferred : ℕ
   pub to : ℕ
 
 -- `v=k`, a need or a set

@@ -10,9 +10,9 @@ unfoldable pub list_text : {A : Type 0} → (A → List ℕ) → List A → List
 list_text write [] = bytes "-"
 list_text write (x ∷ xs) = parted 44 (write x ∷ map write xs)
 
--- `a:b`
+-- `a:p:b`
 unfoldable pub window_text : Window → List ℕ
-window_text w = parted 58 (decimal w.from ∷ decimal w.to ∷ [])
+window_text w = parted 58 (decimal w.from ∷ decimal w.preferred ∷ decimal w.to ∷ [])
 
 -- `v=k`
 unfoldable pub setting_text : Setting → List ℕ

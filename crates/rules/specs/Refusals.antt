@@ -1,8 +1,8 @@
--- The refusals by their numbers (01, When the planner says no).
+-- The refusals by their numbers (01, When the planner says no; 13: 02, [2]).
 use Rattle.std.specs.Prelude.{ℕ, Result, Ok, Err}
 use Rattle.rules.specs.Fields.{Read, value, fault}
 use Rattle.rules.specs.declared.Fault.{Fault}
-use Rattle.rules.specs.declared.Fault.TheVariants.{TooLong, NotFormed, Malformed, OutOfRange, TooMany, Repeated, Misplaced, NotRising, OutOfReach, NoRoom, NoPlace, NoSet}
+use Rattle.rules.specs.declared.Fault.TheVariants.{TooLong, NotFormed, Malformed, OutOfRange, TooMany, Repeated, Misplaced, NotRising, OutOfReach, NoRoom, NoPlace, NoSet, OutOfWindow}
 use Rattle.rules.specs.declared.Refusal.{Refusal as RefusalStruct}
 
 abbrev pub number_of : Fault → ℕ
@@ -18,6 +18,7 @@ number_of OutOfReach = 9
 number_of NoRoom = 10
 number_of NoPlace = 11
 number_of NoSet = 12
+number_of OutOfWindow = 13
 
 -- a refusal: its number and line
 pub record Refusal : Type 0 where

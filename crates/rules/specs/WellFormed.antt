@@ -38,9 +38,15 @@ NumbersFormed hi most xs = ListFormed (λ x. x ≤ hi) (λ x. x) (λ x. x) most 
 abbrev pub SettingsFormed : List Setting → Type 0
 SettingsFormed xs = ListFormed (λ x. (x.variable ≤ 7) × (x.value ≤ 255)) (λ x. x.variable) (λ x. x.variable) 4 xs
 
--- "each `a:b` with bounds 0 to 4,095"; "a window has a ≤ b, and each window begins after the last one's b"
+-- "bounds 0 to 4,095"; "`a:p:b`, with p from a to b" (02, [2])
+pub record WindowFormed (w : Window) : Type 0 where
+  pub from : w.from ≤ 4095
+  pub preferred : (w.from ≤ w.preferred) × (w.preferred ≤ w.to)
+  pub to : w.to ≤ 4095
+
+-- "a window has a ≤ b, and each window begins after the last one's b"
 abbrev pub WindowsFormed : List Window → Type 0
-WindowsFormed ws = ListFormed (λ w. (w.from ≤ 4095) × (w.to ≤ 4095)) (λ w. w.from) (λ w. w.to) 4 ws
+WindowsFormed ws = ListFormed WindowFormed (λ w. w.from) (λ w. w.to) 4 ws
 
 -- "id 0 to 65,535; priority 0 to 65,535; duration 1 to T; .."
 pub record ActivityFormed (h : Header) (a : Activity) : Type 0 where

@@ -27,7 +27,7 @@ pub enum Outcome {
     Refused(u32),
 }
 
-// Why a file or a call is refused (document 01, When the planner says no).
+// Why a file or a call is refused (document 01, When the planner says no; document 02, [2]).
 #[derive(Clone, Copy, PartialEq, Eq)]
 pub enum Fault {
     TooLong,
@@ -42,6 +42,7 @@ pub enum Fault {
     NoRoom,
     NoPlace,
     NoSet,
+    OutOfWindow,
 }
 
 // The number of a fault.
@@ -62,6 +63,7 @@ impl From<Fault> for u32 {
             Fault::NoRoom => 10,
             Fault::NoPlace => 11,
             Fault::NoSet => 12,
+            Fault::OutOfWindow => 13,
         }
     }
 }

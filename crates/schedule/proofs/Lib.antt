@@ -7,3 +7,4 @@ pub mod Reply
 pub mod Tabled
 pub mod NextRuns
 pub mod Columns
+pub mod Windows

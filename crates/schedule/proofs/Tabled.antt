@@ -1,19 +1,22 @@
 -- What a table of sets says is what the conditions say.
 -- Assumes nothing.
 use Prim.Native.Nat.{ℕ, ◌<◌, ◌≤◌}
-use mathlib.Core.Path.{◌≡◌, ◌∙◌, ap}
-use mathlib.Core.Bool.{Bool}
+use mathlib.Core.Path.{◌≡◌, sym, ◌∙◌, ap}
+use mathlib.Core.Bool.{Bool, true}
 use mathlib.Core.List.{List}
 use native.Mathlib.Omega.{arith}
 use lib.ListN.{length, get_or, take, get_or-eq_default}
+use borrow.Author.Tests.{eqb-true}
 use Rattle.std.proofs.Common.{get_or-take, length-take-le}
 use Rattle.rules.specs.Conditions.{condition_count, all_conditions, has, meets_set}
 use Rattle.rules.specs.Answer.{answer}
 use Rattle.rules.specs.Runs.{runs_from}
 use Rattle.rules.proofs.Cases.{by_order}
+use Rattle.rules.proofs.Sets.{all_of_them}
 use Rattle.sets.specs.Sets.{met_set, holds_set}
 use Rattle.sets.specs.Table.{Table}
 use Rattle.sets.proofs.MetSets.{has_met, met_low}
+use Rattle.schedule.specs.Found.{is_valid}
 use Rattle.schedule.specs.Search.{test_in, meets_in}
 use Rattle.schedule.proofs.Agree.{answer_alike, runs_alike, meets_alike}
 use Rattle.schedule.proofs.Common.{contains_meets}
@@ -55,3 +58,12 @@ module _ (n : ℕ) (table : List ℕ) (long : n ≤ length table) where
   pub first_runs : (m : ℕ) → runs_from (meets_in (take n table) m) 0 (length (take n table)) ≡ runs_from (meets_in table m) 0 n
   unfolding meets_in
   first_runs m = rw many (runs_alike _ _ 0 n (λ s _ h. ap (λ (e : ℕ). holds_set e m) (first_entry s (omega arith))))
+
+  -- a start that is valid by them meets every condition
+  pub first_valid : (test : ℕ → ℕ → Bool) → Table test n table → (s c : ℕ) → is_valid (take n table) s ≡ true → c < condition_count → test c s ≡ true
+  unfolding is_valid test_in
+  first_valid test T s c e h =
+      let full : get_or (take n table) s 0 ≡ all_conditions = eqb-true _ all_conditions e in
+      by_order s n
+      (λ l. sym (agrees test n table T c s h l) ∙ ap (λ (m : ℕ). has m c) (sym (first_entry s l) ∙ full) ∙ all_of_them c h)
+      (λ l. absurd (omega (arith, full, get_or-eq_default (take n table) 0 {n = s} (omega (arith, many)))))

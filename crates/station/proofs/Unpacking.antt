@@ -95,7 +95,7 @@ answer_outcome p F ps a (Refused m) R = refused_outcome m (omega (arith, (R.refu
 outcome_of_lem : (s : List ℕ) (x : Reading) → reading s ≡ x → (k : ℕ) → OutcomeUnpacked (outcome_call s k) (packed (outcome_call s k))
 outcome_of_lem s (refused q) e k =
     let small = refusal_small s q e in
-    outcome_as (outcome_call s k) (refusal q.number q.line) (unfold outcome_call outcome_of in (rw e)) (refusal_outcome _ _ small.0.0 (omega (arith, small)) (omega (arith, small)))
+    outcome_as (outcome_call s k) (refusal q.number q.line) (unfold outcome_call outcome_of in (rw e)) (refusal_outcome _ _ small.0 (omega (arith, small)) (omega (arith, small)))
 outcome_of_lem s (accepted p) e k =
     let D : Demand3 s p = demand3 s p e in
     either_way (leb (length p.activities) k)

@@ -9,7 +9,7 @@ mod intervals;
 use intervals::{RUNS, columns, put_runs};
 use rules::Interval;
 
-const VERSION: u32 = 2;
+const VERSION: u32 = 3;
 
 // The version of the library (specs/Version.antt).
 pub fn planner_version() -> u32

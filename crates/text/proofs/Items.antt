@@ -1,22 +1,26 @@
 -- Laws of a list's items at a cursor, for a list of any kind; and of the items of a form.
 -- Assumes nothing.
 use mathlib.Core.Path.{◌≡◌, refl}
-use mathlib.Core.Bool.{Bool, true, false, cond, and-false}
+use mathlib.Core.Bool.{Bool, true, false, cond, not, and-false}
 use mathlib.Core.List.{List, [], ◌∷◌, ◌++◌, append-nil}
-use Prim.Native.Nat.{ℕ, suc, ◌+◌, ◌≤◌, ◌<◌}
+use Prim.Native.Nat.{ℕ, suc, max, ◌+◌, ◌≤◌, ◌<◌}
 use native.Mathlib.Nat.{zero-add, add-zero}
 use native.Mathlib.Numerals.{add-one}
 use native.Mathlib.Omega.{arith}
 use lib.ListN.{length, length-append}
 use lib.Seq.{append_snoc}
+use Rattle.std.proofs.lemmas.Bool.Decides.{nat_tests}
 use borrow.Author.Tests.{le-leb, lt-leb}
 use Rattle.std.specs.Prelude.{Option, Some, None}
+use Rattle.std.specs.List.{list_all}
 use Rattle.std.specs.Option.{option_or}
 use Rattle.rules.specs.Tests.{every}
 use Rattle.rules.specs.Fields.{Read, value, fault, Kind, within, rising, items}
 use Rattle.rules.specs.declared.Fault.{Fault}
 use Rattle.rules.specs.declared.Fault.TheVariants.{OutOfRange, NotRising}
-use Rattle.text.specs.Text.{item, kind_of}
+use Rattle.rules.proofs.Library.{every_is}
+use Rattle.items.specs.declared.Item.{Item}
+use Rattle.text.specs.Text.{item, second_inside, kind_of}
 use Rattle.text.specs.Cursor.{found, items_from}
 use Rattle.text.specs.declared.list.Form.{Form}
 
@@ -37,8 +41,12 @@ module _ {A : Type 0} (k : Kind A) where
   unfolding items items_from found
   from_start parts = simp zero-add
 
+  -- what all items say, once there is no fault 3, 4 or 8
+  abbrev pub judged : List A → Read (List A)
+  judged b = cond (not (every k.in_window b)) (fault 13) (value b)
+
   module _ (f : Option Fault) (l : ℕ) (b : List A) where
-    pub from_end : length b ≤ k.most → items_from k f l b [] ≡ found f (value b)
+    pub from_end : length b ≤ k.most → items_from k f l b [] ≡ found f (judged b)
     unfolding items_from every rising
     from_end h = simp (add-zero, le-leb _ _ h, append-nil)
 
@@ -75,17 +83,30 @@ module _ {A : Type 0} (k : Kind A) where
 
 -- ---- items of a form
 
--- the numbers of an item are in the form's range
-pub inside : (f : Form) (n a b : ℕ) → a ≤ f.first → b ≤ f.second → (kind_of f n).in_range (item a b) ≡ true
-unfolding within
-inside f n a b h k =
-    let z : (x : ℕ) → 0 ≤ x = λ x. omega arith in
-    simp (le-leb _ _ (z a), le-leb _ _ (z b), le-leb _ _ h, le-leb _ _ k)
+module _ (f : Form) (n a b c : ℕ) where
+  -- the numbers of an item are in the form's range
+  pub inside : a ≤ f.most_first → max b c ≤ f.most_others → (kind_of f n).in_range (item a b c) ≡ true
+  unfolding within
+  inside h k =
+      let z : (x : ℕ) → 0 ≤ x = λ x. omega arith in
+      let kb : b ≤ f.most_others = omega arith in
+      let kc : c ≤ f.most_others = omega arith in
+      simp (le-leb _ _ (z a), le-leb _ _ (z b), le-leb _ _ (z c), le-leb _ _ h, le-leb _ _ kb, le-leb _ _ kc)
 
-pub outside_first : (f : Form) (n a b : ℕ) → f.first < a → (kind_of f n).in_range (item a b) ≡ false
-unfolding within
-outside_first f n a b h = simp (lt-leb _ _ h, and-false)
+  pub outside_first : f.most_first < a → (kind_of f n).in_range (item a b c) ≡ false
+  unfolding within
+  outside_first h = simp (lt-leb _ _ h, and-false)
 
-pub outside_second : (f : Form) (n a b : ℕ) → f.second < b → (kind_of f n).in_range (item a b) ≡ false
-unfolding within
-outside_second f n a b h = simp (lt-leb _ _ h, and-false)
+  pub outside_others : f.most_others < max b c → (kind_of f n).in_range (item a b c) ≡ false
+  unfolding within
+  outside_others h = grind (arith, nat_tests)
+
+-- which items are in their windows, where they have any
+module _ (f : Form) (n : ℕ) where
+  pub spanning : (xs : List Item) → f.spans ≡ true → every (kind_of f n).in_window xs ≡ list_all second_inside xs
+  spanning xs e = rw e (every_is second_inside xs)
+
+  pub not_spanning : (xs : List Item) → f.spans ≡ false → every (kind_of f n).in_window xs ≡ true
+  unfolding every
+  not_spanning [] e = refl
+  not_spanning (x ∷ xs) e = rw e (not_spanning xs e)

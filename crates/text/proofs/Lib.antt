@@ -2,6 +2,6 @@ pub mod Put
 pub mod Decimal
 pub mod Splits
 pub mod Digits
-pub mod Pairs
 pub mod Items
 pub mod Same
+pub mod Numbers

@@ -1,6 +1,6 @@
 -- Laws of the parts of a text: in the words of std, and the next byte of a kind, the part up to it and the parts behind it.
 -- Assumes nothing.
-use mathlib.Core.Path.{◌≡◌, refl, ap, subst}
+use mathlib.Core.Path.{◌≡◌, refl, subst}
 use mathlib.Core.Logic.{◌≢◌}
 use denote.Param.Members.{Mut}
 use denote.Ref.{Bor}
@@ -8,7 +8,6 @@ use Rattle.std.specs.Slice.Iter as slice
 use Rattle.std.specs.Fn.{CalledAt}
 use Rattle.std.specs.List.{slice_split, onto_first}
 use Rattle.std.proofs.lemmas.Iterator.{YieldsList}
-use Rattle.std.proofs.lemmas.List.Splits.{length-slice_split}
 use Rattle.std.proofs.lemmas.Iterator.Splits.{YieldsList-from_slice_split}
 use mathlib.Core.Bool.{Bool, true, false, cond}
 use mathlib.Core.List.{List, [], ◌∷◌}
@@ -51,7 +50,7 @@ unfolding index_of
 index_miss b x s e = rw (ne_eqb _ _ e, add-one)
 
 -- the first part of s, where b is in s, and where it is not
-pub split_more : (b : ℕ) (s : List ℕ) → index_of b s < length s → split_on b s ≡ take (index_of b s) s ∷ split_on b (drop (suc (index_of b s)) s)
+split_more : (b : ℕ) (s : List ℕ) → index_of b s < length s → split_on b s ≡ take (index_of b s) s ∷ split_on b (drop (suc (index_of b s)) s)
 unfolding split_on on_first index_of
 split_more b [] h = absurd (not-suc-le-zero h)
 split_more b (x ∷ s) h = go (eqb x b) (split_more b s) h
@@ -75,6 +74,3 @@ next_part b s end e h =
     let i : end ≡ index_of b s = omega arith in
     let whole : take (length s - (end + 1)) (drop (end + 1) s) ≡ drop (end + 1) s = take_all _ _ (simp length-drop (omega arith)) in
     rw (whole, add-one, i) (split_more b s (omega arith))
-
-pub some_part : (b : ℕ) (s : List ℕ) → 1 ≤ length (split_on b s)
-some_part b s = omega (arith, ap length (split_is b s), length-slice_split (λ x. eqb x b) s)

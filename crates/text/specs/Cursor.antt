@@ -22,4 +22,5 @@ items_from k before_fault least before parts =
     (cond (not (every k.in_range (map k.item_of parts))) (fault 4)
     (found before_fault
     (cond (not (rising k.low k.high least (map k.item_of parts) && leb (length before + length parts) k.most)) (fault 8)
-    (value (before ++ map k.item_of parts)))))
+    (cond (not (every k.in_window (before ++ map k.item_of parts))) (fault 13)
+    (value (before ++ map k.item_of parts))))))

@@ -1,51 +1,77 @@
-// List fields: items parted by commas, each a number or two numbers around a byte, with the faults 3, 4 and 8 over the whole field.
+// List fields: items parted by commas, each a number, or two or three with a byte between each two, with the faults 3, 4, 8
+// and 13 over the whole field.
 ghost use Rattle.std.specs.Prelude.{◌≡◌, ◌≤◌, true, List, [], ◌∷◌, ℕ, length};
+ghost use Rattle.std.specs.List.{list_all};
 ghost use Rattle.rules.specs.Fields.{list_field};
 ghost use Rattle.rules.specs.Refusals.{read_as};
-ghost use Rattle.text.specs.Text.{pair_is, item_is, is_item, item_of, item, kind_of};
+ghost use Rattle.text.specs.Text.{numbers_of, item_is, is_item, item_of, item, second_inside, kind_of};
 ghost use Rattle.text.specs.Cursor.{items_from};
 
-use crate::field::find;
 use crate::number::read_number;
 use crate::parts::Parts;
 use items::{Item, Items};
 use rules::Fault;
 
-// A kind of list: the byte inside an item of two numbers; the greatest first and second number; and whether an item spans
-// its first to its second number, so that the next begins behind the second. `spans` picks, in `count_in`
-// alone, which number the next item must pass; a closure in its place would be carried through `Fields::list`.
+// How an item is written: one number, or two or three with this byte between each two.
+#[derive(Clone, Copy)]
+pub enum Shape {
+    One,
+    Two(u8),
+    Three(u8),
+}
+
+// A kind of list: how its items are written; the greatest first number and the greatest of the others; and whether an item
+// spans its first to its third number, so that its second is between them and the next item begins behind the third. `spans`
+// picks which numbers are compared; closures in its place would be carried through `Fields::list`.
 #[derive(Clone, Copy)]
 pub struct Form {
-    pub mark: Option<u8>,
-    pub first: u32,
-    pub second: u32,
+    pub shape: Shape,
+    pub most_first: u32,
+    pub most_others: u32,
     pub spans: bool,
 }
 
-// The two numbers with the byte `mark` between them that all of s is.
-fn read_pair(s: &[u8], mark: u8) -> Option<(u64, u64)>
-    ensures { result ≡ pair_is mark s.now }
+// The K numbers with the byte `mark` between each two that all of s is.
+fn read_numbers<const K: usize>(s: &[u8], mark: u8) -> Option<[u64; K]>
+    ensures { result ≡ numbers_of K mark s.now }
 {
-    let c = find(s, 0, mark);
-    if c == s.len() || find(s, c + 1, mark) != s.len() {
-        return None;
+    let mut numbers = [0; K];
+    let mut parts = Parts::of(s, mark);
+    for number in &mut numbers {
+        *number = read_number(parts.next()?)?;
     }
-    let a = read_number(&s[..c])?;
-    let b = read_number(&s[c + 1..])?;
-    Some((a, b))
+    match parts.next() {
+        Some(_) => None,
+        None => Some(numbers),
+    }
 }
 
-// The two numbers of the item that all of s is; one number is both.
-fn read_item(s: &[u8], mark: Option<u8>) -> Option<(u64, u64)>
-    ensures { result ≡ item_is mark s.now }
+// The three numbers of the item that all of s is.
+fn read_item(s: &[u8], shape: Shape) -> Option<(u64, u64, u64)>
+    ensures { result ≡ item_is shape s.now }
 {
-    match mark {
-        Some(mark) => read_pair(s, mark),
-        None => {
-            let v = read_number(s)?;
-            Some((v, v))
+    match shape {
+        Shape::One => {
+            let a = read_number(s)?;
+            Some((a, a, a))
+        }
+        Shape::Two(mark) => {
+            let [a, b] = read_numbers::<2>(s, mark)?;
+            Some((a, b, b))
+        }
+        Shape::Three(mark) => {
+            let [a, b, c] = read_numbers::<3>(s, mark)?;
+            Some((a, b, c))
         }
     }
+}
+
+// Whether the second number of each item is from its first to its third.
+#[tactic(auto, unfolding(rules::specs::Fields::within))]
+fn are_inside(items: &[Item]) -> bool
+    ensures { result ≡ list_all second_inside items.now }
+{
+    items.iter().all(|item| item.first <= item.second && item.second <= item.third)
 }
 
 // What was read of a list: the fault of an item out of range or, where there is none, of one that did not rise or was too many;
@@ -59,15 +85,15 @@ struct Tally<const N: usize> {
 }
 
 impl<const N: usize> Tally<N> {
-    // One more item, a and b.
-    fn count_in(&mut self, a: u64, b: u64, form: Form)
-        ensures { (p : List ℕ) (ps : List (List ℕ)) → is_item form.mark p ≡ true → item_of form.mark p ≡ item a b → items_from (kind_of form N) self.old.fault self.old.least self.old.items (p ∷ ps) ≡ items_from (kind_of form N) self.new.fault self.new.least self.new.items ps }
+    // One more item, a, b and c.
+    fn count_in(&mut self, a: u64, b: u64, c: u64, form: Form)
+        ensures { (p : List ℕ) (ps : List (List ℕ)) → is_item form.shape p ≡ true → item_of form.shape p ≡ item a b c → items_from (kind_of form N) self.old.fault self.old.least self.old.items (p ∷ ps) ≡ items_from (kind_of form N) self.new.fault self.new.least self.new.items ps }
     {
-        if u64::from(form.first) < a || u64::from(form.second) < b {
+        if u64::from(form.most_first) < a || u64::from(form.most_others) < b.max(c) {
             self.fault = Some(Fault::OutOfRange);
             return;
         }
-        let high = if form.spans { b } else { a };
+        let high = if form.spans { c } else { a };
         if a < self.least || high < a || self.items.len() == N {
             self.fault = self.fault.or(Some(Fault::NotRising));
             return;
@@ -75,18 +101,22 @@ impl<const N: usize> Tally<N> {
         self.items.push(Item {
             first: a as u32,
             second: b as u32,
+            third: c as u32,
         });
         self.least = high + 1;
     }
 
     // What the whole list says, once its last item is counted in.
-    fn finish(self) -> Result<Items<N>, Fault>
-        ensures { (form : Form) → read_as (λ xs. xs) result ≡ items_from (kind_of form N) self.entry.fault self.entry.least self.entry.items [] }
+    fn finish(self, form: Form) -> Result<Items<N>, Fault>
+        ensures { read_as (λ xs. xs) result ≡ items_from (kind_of form N) self.entry.fault self.entry.least self.entry.items [] }
     {
-        match self.fault {
-            Some(fault) => Err(fault),
-            None => Ok(self.items),
+        if let Some(fault) = self.fault {
+            return Err(fault);
         }
+        if form.spans && !are_inside(self.items.as_slice()) {
+            return Err(Fault::OutOfWindow);
+        }
+        Ok(self.items)
     }
 }
 
@@ -105,10 +135,10 @@ pub fn read_list<const N: usize>(s: &[u8], form: Form) -> Result<Items<N>, Fault
         items: Items::new(),
     };
     for part in Parts::of(s, b',') {
-        let Some((a, b)) = read_item(part, form.mark) else {
+        let Some((a, b, c)) = read_item(part, form.shape) else {
             return Err(Fault::Malformed);
         };
-        tally.count_in(a, b, form);
+        tally.count_in(a, b, c, form);
     }
-    tally.finish()
+    tally.finish(form)
 }

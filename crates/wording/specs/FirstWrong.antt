@@ -1,4 +1,4 @@
--- Which field of a line is the first that is wrong, by the ranges of document 01.
+-- Which field of a line is the first that is wrong, by what documents 01 and 02 ask of it.
 use Rattle.std.specs.Prelude.{ℕ, suc, Bool, true, false, cond, List, [], ◌∷◌, eqb, Option, Some, None}
 use Rattle.rules.specs.Lines.{field}
 use Rattle.rules.specs.Fields.{Read, value, fault, number_field, list_field, numbers, window_kind, setting_kind}

@@ -2,7 +2,7 @@
 use Rattle.std.specs.Prelude.{ℕ, cond, List, [], ◌∷◌, eqb, get_or}
 use Rattle.rules.specs.Bytes.{bytes}
 
--- the refusal of number k, from 1
+-- the refusal of number k, from 1; 10 to 12 are of a call and have no words
 unfoldable pub refusal_words : ℕ → List ℕ
 refusal_words k =
     get_or (
@@ -16,6 +16,10 @@ refusal_words k =
     ∷ bytes "after names an id that no activity at an earlier place has"
     ∷ bytes "the list does not rise, a window ends before it begins, or there are too many items"
     ∷ bytes "with nothing placed, the charge at the horizon is under the handover charge"
+    ∷ []
+    ∷ []
+    ∷ []
+    ∷ bytes "a preferred tick lies outside its window"
     ∷ []) k []
 
 -- what condition number c asks
@@ -67,7 +71,7 @@ act_field_words k =
     ∷ bytes "priority, 0 to 65535"
     ∷ bytes "duration, 1 to the horizon"
     ∷ bytes "preferred tick, 0 to 4095"
-    ∷ bytes "windows, - or up to 4 of the form a:b, 0 to 4095, each a at most its b and above the b before"
+    ∷ bytes "windows, - or up to 4 of the form a:p:b, 0 to 4095, each a at most its b and above the b before, each p from its a to its b"
     ∷ bytes "after, - or up to 8 ids, 0 to 65535, rising"
     ∷ bytes "units, - or up to 32 numbers, 0 to 31, rising"
     ∷ bytes "needs, - or up to 4 of the form v=k, v 0 to 7 and rising, k 0 to 255"

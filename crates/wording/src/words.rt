@@ -26,6 +26,7 @@ pub fn refusal_words(fault: Fault) -> &'static [u8]
         Fault::OutOfReach =>
             b"with nothing placed, the charge at the horizon is under the handover charge",
         Fault::NoRoom | Fault::NoPlace | Fault::NoSet => b"",
+        Fault::OutOfWindow => b"a preferred tick lies outside its window",
     }
 }
 
@@ -85,7 +86,7 @@ fn act_field_words(field: u32) -> &'static [u8]
         3 => b"duration, 1 to the horizon",
         4 => b"preferred tick, 0 to 4095",
         5 =>
-            b"windows, - or up to 4 of the form a:b, 0 to 4095, each a at most its b and above the b before",
+            b"windows, - or up to 4 of the form a:p:b, 0 to 4095, each a at most its b and above the b before, each p from its a to its b",
         6 => b"after, - or up to 8 ids, 0 to 65535, rising",
         7 => b"units, - or up to 32 numbers, 0 to 31, rising",
         8 => b"needs, - or up to 4 of the form v=k, v 0 to 7 and rising, k 0 to 255",

@@ -42,7 +42,7 @@ pub fn said(number: u64) -> String {
     match number >> 32 {
         0 => format!("{value}"),
         0x100 => format!("placed at {value}"),
-        of @ 1..=12 => format!("no {of}, line {value}"),
+        of @ 1..=13 => format!("no {of}, line {value}"),
         _ => format!("{number:#x}, which is no answer"),
     }
 }

@@ -142,9 +142,9 @@ impl Tally {
 
     // What never turned up although it must.
     pub fn missing(&self) -> Vec<String> {
-        let mut missing = self.outcome.lacks("outcome", (1..=9).chain([11]));
-        missing.extend(self.report.lacks("report", 1..=10));
-        missing.extend(self.starts.lacks("starts", 1..=12));
+        let mut missing = self.outcome.lacks("outcome", (1..=9).chain([11, 13]));
+        missing.extend(self.report.lacks("report", (1..=10).chain([13])));
+        missing.extend(self.starts.lacks("starts", 1..=13));
         missing.extend(self.report.lacks_slices("report"));
         missing.extend(self.starts.lacks_slices("starts"));
         let wanted = [

@@ -1,5 +1,5 @@
 -- `rows_spoilt` meets its contract: no need of the entries behind the last is ever spoilt.
-use Rattle.std.proofs.Common.{rules, ◌≡◌, ℕ, ◌<◌, ◌≤◌, ◌+◌, length, false, arith}
+use Rattle.std.proofs.Common.{rules, ◌≡◌, ℕ, ◌<◌, ◌≤◌, length, false}
 use Rattle.state.specs.Judging.{judged_in, can_be_spoilt}
 use Rattle.state.proofs.Entries.{rows_past}
 use Rattle.state.proofs.spoils.rows_spoilt.Goals as goal

@@ -7,7 +7,7 @@ use Rattle.rules.specs.Refusals.{read_as}
 use Rattle.text.specs.Text.{kind_of}
 use Rattle.text.proofs.Same.{same_is}
 use Rattle.text.proofs.Items.{from_start, from_bad}
-use Rattle.text.proofs.Pairs.{item_bad, item_good}
+use Rattle.text.proofs.Numbers.{item_bad, item_good}
 use Rattle.text.proofs.list.read_list.Goals as goal
 
 pub returns-then-eq : goal.returns-then-eq
@@ -27,5 +27,5 @@ returns-in_default g c =
 
 pub loop-part-preserved : goal.loop-part-preserved
 loop-part-preserved g c =
-    let one = item_good _ _ _ _ (sym c.in-Some-read_item.ensures) in
+    let one = item_good _ _ _ _ _ (sym c.in-Some-read_item.ensures) in
     rw (← c.count_in.ensures _ _ one.0 one.1, ← c.in-Some.ensures.steps) c.loop-part.invariant

@@ -1,15 +1,34 @@
 -- `list::Tally::finish` meets its contract.
-use Rattle.std.proofs.Common.{refl}
+use Rattle.std.proofs.Common.{◌≡◌, ◌∙◌, sym, refl, true, false}
 use Rattle.rules.specs.Refusals.{read_as}
+use Rattle.rules.specs.Tests.{every}
 use Rattle.text.specs.Text.{kind_of}
 use Rattle.text.specs.Cursor.{found}
-use Rattle.text.proofs.Items.{from_end}
+use Rattle.text.proofs.Items.{from_end, spanning, not_spanning}
 use Rattle.text.proofs.list.Tally.finish.Goals as goal
+use Rattle.text.proofs.list.Tally.finish.Goals.{else-form-via-then-form+else-not-are_inside, else-form-via-else-form}
 
 pub returns-in-Some : goal.returns-in-Some
 unfolding read_as found
-returns-in-Some g c = λ form. rw (from_end (kind_of form g.row.N) _ _ _ c.args.self.few, c.in-Some.is) refl
+returns-in-Some g c = rw (from_end (kind_of c.args.form g.row.N) _ _ _ c.args.self.few, c.in-Some.is) refl
 
-pub returns-in-None : goal.returns-in-None
+pub returns-then-not-are_inside : goal.returns-then-not-are_inside
 unfolding read_as found
-returns-in-None g c = λ form. rw (from_end (kind_of form g.row.N) _ _ _ c.args.self.few, c.in-None.is) refl
+returns-then-not-are_inside g c =
+    let f = c.args.form in
+    let n = g.row.N in
+    let out : every (kind_of f n).in_window c.args.self.items ≡ false = spanning f n c.args.self.items c.if-form.true ∙ rw (← c.as_slice.ensures.value) (sym c.are_inside.ensures) ∙ c.if-not-are_inside.true in
+    rw (from_end (kind_of f n) _ _ _ c.args.self.few, c.in_default.is, out) refl
+
+pub returns : goal.returns
+unfolding read_as found
+returns g c =
+    let f = c.args.form in
+    let n = g.row.N in
+    let all : every (kind_of f n).in_window c.args.self.items ≡ true =
+    elim c.else-form.branch [
+      | else-form-via-then-form+else-not-are_inside w ↦ spanning f n c.args.self.items w.if-form.true ∙ rw (← w.as_slice.ensures.value) (sym w.are_inside.ensures) ∙ w.if-not-are_inside.false
+      | else-form-via-else-form w ↦ not_spanning f n c.args.self.items w.if-form.false
+    ]
+    in
+    rw (from_end (kind_of f n) _ _ _ c.args.self.few, c.in_default.is, all) refl
