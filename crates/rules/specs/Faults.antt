@@ -1,4 +1,4 @@
--- What each refusal of a file, 1 to 9 and 13, says of it, in plain facts: what is wrong, and that all that is checked before it is right (01, When the planner says no).
+-- What each refusal of a file, 1 to 9 and 13, says of it, in plain facts: what is wrong, and that all that is checked before it is right (01, When the planner says no; 13: 02, [2]).
 use Rattle.std.specs.Prelude.{ℕ, zero, suc, ◌<◌, ◌≤◌, ◌≡◌, ◌≢◌, pos, length, get_or, ◌<ℤ◌}
 use mathlib.Core.List.{List, [], Memᴰ}
 use Rattle.rules.specs.Bytes.{bytes}

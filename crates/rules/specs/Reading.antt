@@ -1,4 +1,4 @@
--- Reading a plan file, with the refusals 1 to 9 and 13 in their order (01, When the planner says no).
+-- Reading a plan file, with the refusals 1 to 9 and 13 in their order (01, When the planner says no; 13: 02, [2]).
 use Rattle.std.specs.Prelude.{ℕ, suc, Bool, cond, not, ◌&&◌, List, [], ◌∷◌, ◌++◌, leb, ltb, eqb, pos, length}
 use Rattle.std.proofs.Math.Option.{Option, none, some}
 use Rattle.std.specs.Int.Signed.{lt_z}
