@@ -3,6 +3,7 @@ pub mod Rows
 pub mod Edges
 pub mod RefusalTable
 pub mod Warmup
+pub mod WarmupTable
 pub mod Charge
 pub mod Lowest
 pub mod State

@@ -9,7 +9,7 @@ use Rattle.rules.specs.Open.{opened}
 use Rattle.rules.specs.Warmup.{warmup_entry, warmup_at}
 use Rattle.cases.proofs.Rows.{all, rows_opened}
 
--- entry q of the table is w
+-- entry q is w
 unfoldable pub entry : ℕ → ℕ → Bool
 entry q w = eqb (warmup_entry q) w
 

@@ -1,2 +1,3 @@
 #![tactic(auto)]
-// Plans and their answers, worked out by hand from document 01, that the checker computes: tables in `proofs/`, and no code.
+// Tables that the checker computes, in `proofs/`, and no code: plans and their answers, worked out by hand from documents
+// 01 and 02, and the old table of warm-ups.

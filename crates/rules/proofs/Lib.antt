@@ -2,7 +2,6 @@ pub mod Tests
 pub mod Every
 pub mod Library
 pub mod Lists
-pub mod Table
 pub mod Nearest
 pub mod Sets
 pub mod Letters

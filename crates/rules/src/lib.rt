@@ -1,10 +1,10 @@
 #![tactic(auto)]
-// The numbers and types that the planner's crates share, and the warm-up table.
-ghost use Rattle.std.specs.Prelude.{◌≡◌, ◌∷◌, ◌++◌, Some};
+// The numbers and types that the planner's crates share, and the warm-up before a start.
+ghost use Rattle.std.specs.Prelude.{◌≡◌, ◌<◌, ◌∷◌, ◌++◌, Some};
 ghost use Rattle.std.specs.Fmt.{decimal};
 ghost use Rattle.rules.specs.Bytes.{bytes};
 ghost use Rattle.rules.specs.Refusals.{number_of};
-ghost use Rattle.rules.specs.Warmup.{warmup_at};
+ghost use Rattle.rules.specs.Warmup.{warmup_entry, warmup_at};
 
 use std::fmt::{self, Display};
 
@@ -111,23 +111,8 @@ pub struct Interval {
     pub last: u32,
 }
 
-// The warm-up in ticks for each five minutes of the day (document 01, Warm-up), from midnight.
-const WARMUP: [u32; 288] = [
-    14, 14, 14, 14, 14, 14, 14, 14, 14, 14, 14, 14, 15, 15, 15, 15, 15, 15, 15, 15, 15, 15, 15, 15,
-    16, 15, 15, 15, 15, 15, 15, 15, 15, 15, 15, 15, 15, 14, 14, 14, 14, 14, 14, 14, 14, 14, 14, 14,
-    14, 13, 13, 13, 13, 13, 13, 13, 13, 13, 13, 13, 13, 12, 12, 12, 12, 12, 12, 12, 12, 12, 12, 12,
-    12, 11, 11, 11, 11, 11, 11, 11, 11, 11, 11, 11, 11, 10, 10, 10, 10, 10, 10, 10, 10, 10, 10, 10,
-    10, 9, 9, 9, 9, 9, 9, 9, 9, 9, 9, 9, 9, 8, 8, 8, 8, 8, 8, 8, 8, 8, 8, 8, 8, 7, 7, 7, 7, 7, 7,
-    7, 7, 7, 7, 7, 7, 6, 6, 6, 6, 6, 6, 6, 6, 6, 6, 6, 6, 5, 5, 5, 5, 5, 5, 5, 5, 5, 5, 5, 5, 4, 4,
-    4, 4, 4, 4, 4, 4, 4, 4, 4, 4, 4, 4, 4, 4, 4, 4, 4, 4, 4, 4, 4, 5, 5, 5, 5, 5, 5, 5, 5, 5, 5, 5,
-    5, 6, 6, 6, 6, 6, 6, 6, 6, 6, 6, 6, 6, 7, 7, 7, 7, 7, 7, 7, 7, 7, 7, 7, 7, 8, 8, 8, 8, 8, 8, 8,
-    8, 8, 8, 8, 8, 9, 9, 9, 9, 9, 9, 9, 9, 9, 9, 9, 9, 10, 10, 10, 10, 10, 10, 10, 10, 10, 10, 10,
-    10, 11, 11, 11, 11, 11, 11, 11, 11, 11, 11, 11, 11, 12, 12, 12, 12, 12, 12, 12, 12, 12, 12, 12,
-    12, 13, 13, 13, 13, 13, 13, 13, 13, 13, 13, 13, 13,
-];
-
-// w(s): the ticks of warm-up before a start, at the minute of day of tick 0; 0 where warm is 0. `warm` is document
-// 01's field, a number that is 0 or 1.
+// w(s): the ticks of warm-up before a start, 0 where warm is 0 (document 01, Warm-up). `minute` is the minute of day of
+// tick 0, `warm` document 01's field, a number that is 0 or 1.
 pub fn warmup_at(minute: u32, start: u32, warm: u32) -> u32
     ensures { result ≡ warmup_at minute start warm }
 {
@@ -135,5 +120,17 @@ pub fn warmup_at(minute: u32, start: u32, warm: u32) -> u32
         return 0;
     }
     let q = (u64::from(minute) + u64::from(start)) % 1440 / 5;
-    WARMUP[q as usize]
+    warmup_entry(q as u32)
+}
+
+// Entry q of document 01's table of warm-ups, by its formula (document 02, [3]): m is the distance from 14:00, the shorter
+// way round the day. Not inlined: by itself it is faster (docs/DECISIONS.md).
+#[inline(never)]
+fn warmup_entry(q: u32) -> u32
+    requires { q < 288 }
+    ensures { result ≡ warmup_entry q }
+{
+    let d = q.abs_diff(168);
+    let m = d.min(288 - d);
+    4 + m / 12
 }
