@@ -50,16 +50,24 @@ pub fn run<R: Read, F: FnOnce(&[u8]) -> io::Result<()>>(
     ensures { exit_status result ≡ 0 → (count : ℕ) × Consumes (R.remaining reader.old) (R.remaining reader.new) (take count buf.new) × (count < length buf.new → IsAtEnd (R.remaining reader.new)) × FnOnceReturnsAt F.FnOnce answer (take count buf.new) (Ok tt) }
 {
     let Ok(count) = read_input(reader, buf) else {
-        return trouble(rt, name, "standard input cannot be read");
+        return trouble_of(rt, name, "standard input cannot be read");
     };
     match answer(&buf[..count]) {
         Ok(()) => ExitCode::SUCCESS,
-        Err(_) => trouble(rt, name, "standard output cannot be written"),
+        Err(_) => trouble_of(rt, name, "standard output cannot be written"),
     }
 }
 
-// Says on standard error what the trouble of the program `name` is, and answers the status to end with.
-fn trouble(rt: &impl Eprint, name: &str, what: &str) -> ExitCode
+// Says on standard error what the trouble is, and answers the status to end with.
+pub fn trouble(rt: &impl Eprint, what: &str) -> ExitCode
+    ensures { exit_status result ≡ 1 }
+{
+    let _ = rt.eprintln(what);
+    ExitCode::FAILURE
+}
+
+// The same of the trouble of the program `name`, in one write.
+fn trouble_of(rt: &impl Eprint, name: &str, what: &str) -> ExitCode
     ensures { exit_status result ≡ 1 }
 {
     let _ = eprintln!(rt; "{name}: {what}");
