@@ -15,9 +15,10 @@ const PARTS: usize = 1024;
 fn print_part(rt: &impl Print, bytes: &[u8], part: usize) -> io::Result<bool>
     requires { part ≤ 1024 }
 {
-    let out = explanation::explain::<PART>(bytes, part * PART);
-    rt.write_all(out.as_slice())?;
-    Ok(out.as_slice().len() == PART)
+    let mut out = [0u8; PART];
+    let length = explanation::explain(bytes, part * PART, &mut out);
+    rt.write_all(&out[..length])?;
+    Ok(length == PART)
 }
 
 // Prints the text of a plan file.

@@ -1,11 +1,11 @@
 #![tactic(auto)]
 // What a plan file is explained as, for people: of a refused file its line and field, of an accepted plan the starts of
 // each place (docs/EXPLAIN.md).
-ghost use Rattle.std.specs.Prelude.{◌≡◌};
+ghost use Rattle.std.specs.Prelude.{◌≡◌, ◌≤◌, length};
 ghost use Rattle.plan.specs.View.{plan_view};
 ghost use Rattle.explanation.specs.Places.{accepted_text};
-ghost use Rattle.explanation.specs.Explained.{ExplainCalled};
-ghost use Rattle.wording.specs.Writing.{with_more};
+ghost use Rattle.explanation.specs.Explained.{explained, ExplainCalled};
+ghost use Rattle.wording.specs.Writing.{written, with_more};
 
 mod outcomes;
 mod places;
@@ -18,8 +18,8 @@ use wording::writing::Part;
 
 // Writes the text of an accepted plan.
 #[tactic(auto, using(std::proofs::lemmas::Grind::common_steps, wording::proofs::Pieces::more_then), unfolding(crate::specs::Places::accepted_text))]
-fn put_accepted<const N: usize>(out: &mut Part<N>, plan: &Plan)
-    ensures { out.new ≡ with_more N out.old (accepted_text (plan_view plan.now)) }
+fn put_accepted(out: &mut Part, plan: &Plan)
+    ensures { written out.new ≡ with_more (written out.old) (accepted_text (plan_view plan.now)) }
 {
     out.push(b"accepted, activities: ");
     out.push_number(plan.count() as u64);
@@ -27,14 +27,23 @@ fn put_accepted<const N: usize>(out: &mut Part<N>, plan: &Plan)
     put_places(out, plan);
 }
 
-// The part of a plan file's text from byte `from` on, as far as it fits.
-pub fn explain<const N: usize>(bytes: &[u8], from: usize) -> Part<N>
-    ensures { ExplainCalled N bytes.now from result }
+// Writes the text of a plan file.
+fn put_explained(out: &mut Part, bytes: &[u8])
+    ensures { written out.new ≡ with_more (written out.old) (explained bytes.now) }
 {
-    let mut out = Part::new(from);
     match plan::read(bytes) {
-        Ok(plan) => put_accepted(&mut out, &plan),
-        Err(refused) => put_refusal(&mut out, bytes, refused),
+        Ok(plan) => put_accepted(out, &plan),
+        Err(refused) => put_refusal(out, bytes, refused),
     }
-    out
+}
+
+// Writes the part of a plan file's text from byte `from` on, as far as it fits, to the front of `out`, and answers its length.
+pub fn explain(bytes: &[u8], from: usize, out: &mut [u8]) -> usize
+    ensures explain_called { ExplainCalled bytes.now from out.old result out.new }
+    // so that a caller can lend the front of `out`
+    ensures upper_bound { result ≤ length out.new }
+{
+    let mut part = Part::new(from, out);
+    put_explained(&mut part, bytes);
+    part.as_slice().len()
 }

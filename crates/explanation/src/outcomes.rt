@@ -5,7 +5,7 @@ ghost use Rattle.rules.specs.Conditions.{condition_count, has};
 ghost use Rattle.rules.specs.declared.Outcome.TheVariants.{Placed, Refused};
 ghost use Rattle.explanation.specs.Places.{letter_line, letter_text, letter_texts, outcome_text};
 ghost use Rattle.explanation.specs.Tabled.{Small, runs_in};
-ghost use Rattle.wording.specs.Writing.{with_more};
+ghost use Rattle.wording.specs.Writing.{written, with_more};
 
 use crate::runs::put_runs_line;
 use report::letters::letters;
@@ -16,8 +16,8 @@ use wording::writing::Part;
 
 // Writes a letter and what it asks.
 #[tactic(auto, using(std::proofs::lemmas::Grind::common_steps, wording::proofs::Pieces::more_then), unfolding(crate::specs::Places::letter_line))]
-fn put_letter_line<const N: usize>(out: &mut Part<N>, condition: u32)
-    ensures { out.new ≡ with_more N out.old (letter_line condition) }
+fn put_letter_line(out: &mut Part, condition: u32)
+    ensures { written out.new ≡ with_more (written out.old) (letter_line condition) }
 {
     out.push(b"  ");
     out.push(&[sets::letter(condition)]);
@@ -28,9 +28,9 @@ fn put_letter_line<const N: usize>(out: &mut Part<N>, condition: u32)
 
 // Writes a letter of a refusal, what it asks, and the starts that meet the rest.
 #[tactic(auto, using(std::proofs::lemmas::Grind::common_steps, wording::proofs::Pieces::more_then, sets::proofs::Bits::bit_is, rules::proofs::Sets::power_in), unfolding(crate::specs::Places::letter_text))]
-fn put_letter<const N: usize>(out: &mut Part<N>, table: &Table, set: u16, condition: u32)
+fn put_letter(out: &mut Part, table: &Table, set: u16, condition: u32)
     requires { (condition < condition_count) × (has set condition ≡ true) }
-    ensures { out.new ≡ with_more N out.old (letter_text (runs_in table.now.sets.now) set condition) }
+    ensures { written out.new ≡ with_more (written out.old) (letter_text (runs_in table.now.sets.now) set condition) }
 {
     let bit = sets::bit(condition);
     let letters = set - bit;
@@ -52,9 +52,9 @@ fn put_letter<const N: usize>(out: &mut Part<N>, table: &Table, set: u16, condit
 
 // Writes the lines of a condition if it is a letter of the refusal.
 #[tactic(auto, using(wording::proofs::Pieces::more_none))]
-fn put_if_letter<const N: usize>(out: &mut Part<N>, table: &Table, set: u16, condition: u32)
+fn put_if_letter(out: &mut Part, table: &Table, set: u16, condition: u32)
     requires { condition < condition_count }
-    ensures { out.new ≡ with_more N out.old (cond (has set condition) (letter_text (runs_in table.now.sets.now) set condition) []) }
+    ensures { written out.new ≡ with_more (written out.old) (cond (has set condition) (letter_text (runs_in table.now.sets.now) set condition) []) }
 {
     if sets::has_condition(u32::from(set), condition) {
         put_letter(out, table, set, condition);
@@ -63,8 +63,8 @@ fn put_if_letter<const N: usize>(out: &mut Part<N>, table: &Table, set: u16, con
 
 // Writes the lines of each letter of a refusal.
 #[tactic(auto, using(std::proofs::lemmas::Grind::common_steps, wording::proofs::Pieces::more_then, wording::proofs::Pieces::more_none), unfolding(crate::specs::Places::letter_texts))]
-fn put_letters<const N: usize>(out: &mut Part<N>, table: &Table, set: u16)
-    ensures { out.new ≡ with_more N out.old (letter_texts (runs_in table.now.sets.now) set condition_count) }
+fn put_letters(out: &mut Part, table: &Table, set: u16)
+    ensures { written out.new ≡ with_more (written out.old) (letter_texts (runs_in table.now.sets.now) set condition_count) }
 {
     for condition in 0..CONDITIONS {
         put_if_letter(out, table, set, condition);
@@ -73,8 +73,8 @@ fn put_letters<const N: usize>(out: &mut Part<N>, table: &Table, set: u16)
 
 // Writes that an activity is refused, and why.
 #[tactic(auto, using(std::proofs::lemmas::Grind::common_steps, wording::proofs::Pieces::more_then), unfolding(crate::specs::Places::outcome_text))]
-fn put_refused<const N: usize>(out: &mut Part<N>, table: &Table, set: u16)
-    ensures { (a : Activity) → out.new ≡ with_more N out.old (outcome_text (runs_in table.now.sets.now) a (Refused set)) }
+fn put_refused(out: &mut Part, table: &Table, set: u16)
+    ensures { (a : Activity) → written out.new ≡ with_more (written out.old) (outcome_text (runs_in table.now.sets.now) a (Refused set)) }
 {
     out.push(b"refused ");
     out.push(letters(u32::from(set)).as_slice());
@@ -84,8 +84,8 @@ fn put_refused<const N: usize>(out: &mut Part<N>, table: &Table, set: u16)
 
 // Writes where an activity of this duration is placed, and where it could be.
 #[tactic(auto, using(std::proofs::lemmas::Grind::common_steps, wording::proofs::Pieces::more_then), unfolding(crate::specs::Places::outcome_text))]
-fn put_placed<const N: usize>(out: &mut Part<N>, table: &Table, duration: u32, start: u32)
-    ensures { (a : Activity) → a.duration ≡ duration → out.new ≡ with_more N out.old (outcome_text (runs_in table.now.sets.now) a (Placed start)) }
+fn put_placed(out: &mut Part, table: &Table, duration: u32, start: u32)
+    ensures { (a : Activity) → a.duration ≡ duration → written out.new ≡ with_more (written out.old) (outcome_text (runs_in table.now.sets.now) a (Placed start)) }
 {
     out.push(b"placed from ");
     out.push_number(u64::from(start));
@@ -96,14 +96,9 @@ fn put_placed<const N: usize>(out: &mut Part<N>, table: &Table, duration: u32, s
 }
 
 // Writes what came of an activity of this duration.
-pub fn put_outcome<const N: usize>(
-    out: &mut Part<N>,
-    table: &Table,
-    duration: u32,
-    outcome: Outcome,
-)
+pub fn put_outcome(out: &mut Part, table: &Table, duration: u32, outcome: Outcome)
     requires { Small outcome }
-    ensures { (a : Activity) → a.duration ≡ duration → out.new ≡ with_more N out.old (outcome_text (runs_in table.now.sets.now) a outcome) }
+    ensures { (a : Activity) → a.duration ≡ duration → written out.new ≡ with_more (written out.old) (outcome_text (runs_in table.now.sets.now) a outcome) }
 {
     match outcome {
         Outcome::Placed(start) => put_placed(out, table, duration, start),

@@ -4,7 +4,7 @@ ghost use Rattle.rules.specs.Outcomes.{outcome};
 ghost use Rattle.plan.specs.View.{plan_view};
 ghost use Rattle.placing.specs.Places.{TableAt};
 ghost use Rattle.explanation.specs.Places.{place_text, place_texts};
-ghost use Rattle.wording.specs.Writing.{with_more};
+ghost use Rattle.wording.specs.Writing.{written, with_more};
 
 use crate::outcomes::put_outcome;
 use placing::{Placing, place_next, start_count_at};
@@ -14,15 +14,9 @@ use schedule::table::Table;
 use wording::writing::Part;
 
 // Writes what came of the activity at place k, by its table of sets.
-fn put_place<const N: usize>(
-    out: &mut Part<N>,
-    plan: &Plan,
-    k: usize,
-    table: &[u16; TICKS],
-    answer: Outcome,
-)
+fn put_place(out: &mut Part, plan: &Plan, k: usize, table: &[u16; TICKS], answer: Outcome)
     requires { (k < length (plan_view plan.now).activities) × TableAt plan.now k table.now × (answer ≡ outcome (plan_view plan.now) k) }
-    ensures { out.new ≡ with_more N out.old (place_text (plan_view plan.now) k) }
+    ensures { written out.new ≡ with_more (written out.old) (place_text (plan_view plan.now) k) }
 {
     let activity = plan.activity(k);
     let count = start_count_at(plan, k);
@@ -38,8 +32,8 @@ fn put_place<const N: usize>(
 }
 
 // Writes the text of every place. By place, which `place_next` takes and which is written.
-pub fn put_places<const N: usize>(out: &mut Part<N>, plan: &Plan)
-    ensures { out.new ≡ with_more N out.old (place_texts (plan_view plan.now) (length (plan_view plan.now).activities)) }
+pub fn put_places(out: &mut Part, plan: &Plan)
+    ensures { written out.new ≡ with_more (written out.old) (place_texts (plan_view plan.now) (length (plan_view plan.now).activities)) }
 {
     let mut table = [0; TICKS];
     let mut placing = Placing::new();

@@ -2,7 +2,7 @@
 ghost use Rattle.std.specs.Prelude.{◌≡◌};
 ghost use Rattle.explanation.specs.Places.{run_text, run_texts, runs_text, runs_line};
 ghost use Rattle.explanation.specs.Tabled.{runs_in};
-ghost use Rattle.wording.specs.Writing.{with_more};
+ghost use Rattle.wording.specs.Writing.{written, with_more};
 
 use rules::Interval;
 use schedule::runs::{Runs, count_runs};
@@ -11,8 +11,8 @@ use wording::writing::Part;
 
 // Writes a run of starts.
 #[tactic(auto, using(std::proofs::lemmas::Grind::common_steps, wording::proofs::Pieces::more_then), unfolding(crate::specs::Places::run_text))]
-fn put_run<const N: usize>(out: &mut Part<N>, run: Interval)
-    ensures { out.new ≡ with_more N out.old (run_text run) }
+fn put_run(out: &mut Part, run: Interval)
+    ensures { written out.new ≡ with_more (written out.old) (run_text run) }
 {
     out.push(b" ");
     out.push_number(u64::from(run.first));
@@ -22,8 +22,8 @@ fn put_run<const N: usize>(out: &mut Part<N>, run: Interval)
 
 // Writes the runs of starts that meet the set.
 #[tactic(auto, using(std::proofs::lemmas::Grind::common_steps, wording::proofs::Pieces::more_then, wording::proofs::Pieces::more_none), unfolding(crate::specs::Places::run_texts))]
-fn put_each_run<const N: usize>(out: &mut Part<N>, table: &Table, set: u16)
-    ensures { out.new ≡ with_more N out.old (run_texts (runs_in table.now.sets.now set)) }
+fn put_each_run(out: &mut Part, table: &Table, set: u16)
+    ensures { written out.new ≡ with_more (written out.old) (run_texts (runs_in table.now.sets.now set)) }
 {
     for run in Runs::new(table, set) {
         put_run(out, run);
@@ -32,8 +32,8 @@ fn put_each_run<const N: usize>(out: &mut Part<N>, table: &Table, set: u16)
 
 // Writes the runs of starts that meet the set, or that there is none.
 #[tactic(auto, unfolding(crate::specs::Places::runs_text))]
-fn put_runs<const N: usize>(out: &mut Part<N>, table: &Table, set: u16)
-    ensures { out.new ≡ with_more N out.old (runs_text (runs_in table.now.sets.now set)) }
+fn put_runs(out: &mut Part, table: &Table, set: u16)
+    ensures { written out.new ≡ with_more (written out.old) (runs_text (runs_in table.now.sets.now set)) }
 {
     if count_runs(table, set) == 0 {
         out.push(b" none");
@@ -45,8 +45,8 @@ fn put_runs<const N: usize>(out: &mut Part<N>, table: &Table, set: u16)
 // Writes a line of the runs of starts that meet the set, behind these words. The set stays an argument: `put_letter` asks
 // one table for two.
 #[tactic(auto, using(std::proofs::lemmas::Grind::common_steps, wording::proofs::Pieces::more_then), unfolding(crate::specs::Places::runs_line))]
-pub fn put_runs_line<const N: usize>(out: &mut Part<N>, words: &[u8], table: &Table, set: u16)
-    ensures { out.new ≡ with_more N out.old (runs_line words.now (runs_in table.now.sets.now set)) }
+pub fn put_runs_line(out: &mut Part, words: &[u8], table: &Table, set: u16)
+    ensures { written out.new ≡ with_more (written out.old) (runs_line words.now (runs_in table.now.sets.now set)) }
 {
     out.push(words);
     put_runs(out, table, set);

@@ -5,7 +5,7 @@ ghost use Rattle.rules.specs.Faults.{line_at};
 ghost use Rattle.rules.specs.Refusals.{number_of, refusal_view};
 ghost use Rattle.refusal.specs.Refused.{horizon_of, wrong_field, field_of, line_text, field_text, refusal_line, refused_text};
 ghost use Rattle.wording.specs.FirstWrong.{field_in};
-ghost use Rattle.wording.specs.Writing.{with_more};
+ghost use Rattle.wording.specs.Writing.{written, with_more};
 
 use rules::{Fault, Refusal};
 use text::field::{field_at, field_count};
@@ -69,8 +69,8 @@ impl<'a> Line<'a> {
 
     // Writes the line as it is read.
     #[tactic(auto, using(wording::proofs::Pieces::more_then), unfolding(crate::specs::Refused::line_text, rules::specs::Lines::fields))]
-    fn put<const N: usize>(&self, out: &mut Part<N>)
-        ensures { out.new ≡ with_more N out.old (line_text self.now.number self.now.bytes.now) }
+    fn put(&self, out: &mut Part)
+        ensures { written out.new ≡ with_more (written out.old) (line_text self.now.number self.now.bytes.now) }
     {
         out.push(b"line ");
         out.push_number(u64::from(self.number));
@@ -83,8 +83,8 @@ impl<'a> Line<'a> {
 
     // Writes what the line must be.
     #[tactic(auto, using(wording::proofs::Pieces::more_then), unfolding(crate::specs::Refused::field_text))]
-    fn put_must_be<const N: usize>(&self, out: &mut Part<N>)
-        ensures { out.new ≡ with_more N out.old (field_text self.now.number self.now.bytes.now 0) }
+    fn put_must_be(&self, out: &mut Part)
+        ensures { written out.new ≡ with_more (written out.old) (field_text self.now.number self.now.bytes.now 0) }
     {
         out.push(b"must be: ");
         out.push(line_words(self.number));
@@ -93,8 +93,8 @@ impl<'a> Line<'a> {
 
     // Writes a field, for people counted from 1, and what it must be; where there is none, what the line must be.
     #[tactic(auto, using(wording::proofs::Pieces::more_then, crate::proofs::FieldTexts::field_said))]
-    fn put_field<const N: usize>(&self, out: &mut Part<N>, field: Option<u32>)
-        ensures { (i : ℕ) → field ≡ field_in i → out.new ≡ with_more N out.old (field_text self.now.number self.now.bytes.now i) }
+    fn put_field(&self, out: &mut Part, field: Option<u32>)
+        ensures { (i : ℕ) → field ≡ field_in i → written out.new ≡ with_more (written out.old) (field_text self.now.number self.now.bytes.now i) }
     {
         let Some(field) = field else {
             return self.put_must_be(out);
@@ -119,8 +119,8 @@ fn horizon_of(s: &[u8]) -> u32
 
 // Writes the number and line of a refusal, and the number in words.
 #[tactic(auto, using(wording::proofs::Pieces::more_then), unfolding(crate::specs::Refused::refusal_line))]
-fn put_number_line<const N: usize>(out: &mut Part<N>, refused: Refusal)
-    ensures { out.new ≡ with_more N out.old (refusal_line (number_of refused.fault) refused.line) }
+fn put_number_line(out: &mut Part, refused: Refusal)
+    ensures { written out.new ≡ with_more (written out.old) (refusal_line (number_of refused.fault) refused.line) }
 {
     out.push(b"refused ");
     out.push_number(u64::from(u32::from(refused.fault)));
@@ -133,8 +133,8 @@ fn put_number_line<const N: usize>(out: &mut Part<N>, refused: Refusal)
 
 // Writes the text of the file s, which is refused so.
 #[tactic(auto, using(std::proofs::lemmas::Grind::common_steps, wording::proofs::Pieces::more_then), unfolding(crate::specs::Refused::refused_text, crate::specs::Refused::refused_line, rules::specs::Refusals::refusal_view))]
-pub fn put_refusal<const N: usize>(out: &mut Part<N>, s: &[u8], refused: Refusal)
-    ensures { out.new ≡ with_more N out.old (refused_text s.now (refusal_view refused)) }
+pub fn put_refusal(out: &mut Part, s: &[u8], refused: Refusal)
+    ensures { written out.new ≡ with_more (written out.old) (refused_text s.now (refusal_view refused)) }
 {
     put_number_line(out, refused);
     // line 0 is what document 01 answers where the refusal is about no line

@@ -1,10 +1,14 @@
 -- A text written piece by piece.
 -- Assumes nothing.
-use Rattle.std.proofs.Common.{min, ◌≡◌, ℕ, zero, suc, ◌-◌, List, [], ◌∷◌, ◌++◌, length, take, drop, refl, sym, ap, ap₂, ◌∙◌, arith, append_assoc, length-append}
-use Rattle.std.proofs.lemmas.List.{length-take, take_min, drop_min}
+use Rattle.std.proofs.Common.{min, ◌≡◌, ◌≤◌, ℕ, zero, suc, ◌+◌, ◌-◌, List, [], ◌∷◌, ◌++◌, length, take, drop, refl, sym, ap, ap₂, ◌∙◌, arith, append_assoc, length-append}
+use Rattle.std.proofs.lemmas.List.{length-take, length-drop, take_min, drop_min, drop-drop, drop_all, take-append-drop}
+use Rattle.std.proofs.lemmas.Slice.{take-put_mid, drop-put_mid}
+use borrow.Rule.Slice.PartMut.{put_mid}
 use mathlib.Core.List.{append-nil}
 use lib.Seq.{take-nil, drop-nil}
-use Rattle.wording.specs.Writing.{part, Written, with_more, together}
+use Rattle.rules.specs.Calls.{slice_after}
+use Rattle.wording.specs.Writing.{part, Written, written as so_far, with_more, together}
+use Rattle.wording.specs.declared.writing.Part.{Part}
 
 -- the front and the rest of two lists, one behind the other
 take_over : {A : Type 0} (n : ℕ) (xs ys : List A) → take n (xs ++ ys) ≡ take n xs ++ take (n - length xs) ys
@@ -29,51 +33,81 @@ drop_over (suc n) (x ∷ xs) ys =
     let e : suc n - suc (length xs) ≡ n - length xs = omega arith in
     rw e (drop_over n xs ys)
 
-same_written : (k l : ℕ) (u w : List ℕ) → k ≡ l → u ≡ w → ◌≡◌ {A = Written} (record { skip = k; bytes = u }) (record { skip = l; bytes = w })
-same_written k l u w e f = ap₂ (λ (k : ℕ) (u : List ℕ). record { skip = k; bytes = u }) e f
+-- what is written is told by its four fields
+same_written : (n : ℕ) {k l : ℕ} {u w a b : List ℕ} → k ≡ l → u ≡ w → a ≡ b → ◌≡◌ {A = Written} (record { lent = n; skip = k; bytes = u; left = a }) (record { lent = n; skip = l; bytes = w; left = b })
+same_written n e f g = rw (e, f, g) refl
 
 -- no piece
-pub more_none : (room : ℕ) (p : Written) → with_more room p [] ≡ p
+pub more_none : (p : Written) → with_more p [] ≡ p
 unfolding with_more
-more_none room p = same_written _ _ _ _ (omega arith) (rw (drop-nil {A = ℕ} p.skip, take-nil {A = ℕ} (room - length p.bytes)) (append-nil p.bytes))
+more_none p =
+    let none : 0 - p.skip ≡ 0 = omega arith in
+    same_written _ (omega arith) (rw (drop-nil {A = ℕ} p.skip, take-nil {A = ℕ} (length p.left)) (append-nil p.bytes)) (rw none refl)
 
 -- two pieces are one
-pub more_then : (room : ℕ) (p : Written) (u w : List ℕ) → with_more room (with_more room p u) w ≡ with_more room p (u ++ w)
+pub more_then : (p : Written) (u w : List ℕ) → with_more (with_more p u) w ≡ with_more p (u ++ w)
 unfolding with_more
-more_then room p u w =
-    let m = room - length p.bytes in
+more_then p u w =
+    let m = length p.left in
     let us = drop p.skip u in
     let ws = drop (p.skip - length u) w in
-    let left : room - length (p.bytes ++ take m us) ≡ m - length us = omega (arith, length-append p.bytes (take m us), length-take m us) in
+    let room : length (drop (length u - p.skip) p.left) ≡ m - length us = omega (arith, length-drop (length u - p.skip) p.left, length-drop p.skip u) in
     let more : p.bytes ++ take m us ++ take (m - length us) ws ≡ p.bytes ++ take m (drop p.skip (u ++ w)) =
     append_assoc p.bytes (take m us) (take (m - length us) ws)
     ∙ ap (λ (xs : List ℕ). p.bytes ++ xs) (sym (take_over m us ws) ∙ ap (take m) (sym (drop_over p.skip u w)))
     in
-    same_written _ _ _ _ (omega (arith, length-append u w)) (ap (λ (k : ℕ). p.bytes ++ take m us ++ take k ws) left ∙ more)
+    let rest : length u - p.skip + (length w - (p.skip - length u)) ≡ length (u ++ w) - p.skip = omega (arith, length-append u w) in
+    same_written _ (omega (arith, length-append u w)) (ap (λ (k : ℕ). p.bytes ++ take m us ++ take k ws) room ∙ more)
+    (drop-drop (length w - (p.skip - length u)) (length u - p.skip) p.left ∙ ap (λ (k : ℕ). drop k p.left) rest)
 
 -- pieces written one behind the other
-abbrev pub written : ℕ → Written → List (List ℕ) → Written
-written room p [] = p
-written room p (w ∷ ws) = written room (with_more room p w) ws
+abbrev pub written : Written → List (List ℕ) → Written
+written p [] = p
+written p (w ∷ ws) = written (with_more p w) ws
 
-pub pieces : (room : ℕ) (p : Written) (ws : List (List ℕ)) → written room p ws ≡ with_more room p (together ws)
-pieces room p [] = sym (more_none room p)
-pieces room p (w ∷ ws) = pieces room (with_more room p w) ws ∙ more_then room p w (together ws)
+pub pieces : (p : Written) (ws : List (List ℕ)) → written p ws ≡ with_more p (together ws)
+pieces p [] = sym (more_none p)
+pieces p (w ∷ ws) = pieces (with_more p w) ws ∙ more_then p w (together ws)
 
--- a whole text leaves its part
-pub more_part : (room from : ℕ) (text : List ℕ) → (with_more room (record { skip = from; bytes = [] }) text).bytes ≡ part from room text
+-- a whole text leaves its part at the front of the lent slice
+pub more_part : (n from : ℕ) (lent text : List ℕ) → (with_more (record { lent = n; skip = from; bytes = []; left = lent }) text).bytes ≡ part from (length lent) text
 unfolding with_more part
-more_part room from text =
-    let e : room - 0 ≡ room = omega arith in
-    rw e refl
+more_part n from lent text = refl
 
--- one piece more, as the code writes it
-pub piece_written : (room skip passed kept : ℕ) (bytes w rest piece : List ℕ) → passed ≡ min skip (length w) → rest ≡ drop passed w → kept ≡ min (length rest) (room - length bytes) → piece ≡ take kept rest
-    → ◌≡◌ {A = Written} (record { skip = skip - passed; bytes = bytes ++ piece }) (with_more room (record { skip = skip; bytes = bytes }) w)
+-- behind its part stays what stood there
+part_behind : (n from : ℕ) (lent text : List ℕ) → (with_more (record { lent = n; skip = from; bytes = []; left = lent }) text).left ≡ drop (length (part from (length lent) text)) lent
+unfolding with_more part
+part_behind n from lent text =
+    let e : length (take (length lent) (drop from text)) ≡ min (length text - from) (length lent) = omega (arith, length-take (length lent) (drop from text), length-drop from text) in
+    rw e (sym (drop_min (length text - from) lent))
+
+-- what the lent slice holds when a whole text is written
+pub part_stands : (p : Part) (n from : ℕ) (lent text : List ℕ) → so_far p ≡ with_more (record { lent = n; skip = from; bytes = []; left = lent }) text → p.out.now ≡ slice_after (part from (length lent) text) lent
+unfolding so_far slice_after
+part_stands p n from lent text e =
+    sym (take-append-drop p.to p.out.now) ∙ ap₂ (λ (xs ys : List ℕ). xs ++ ys) (ap (λ (w : Written). w.bytes) e ∙ more_part n from lent text) (ap (λ (w : Written). w.left) e ∙ part_behind n from lent text)
+
+-- one piece more, as the code writes it behind the first bytes of the slice
+pub piece_written : (n skip passed kept to : ℕ) (out after w rest piece : List ℕ) → passed ≡ min skip (length w) → rest ≡ drop passed w → to ≤ length out → kept ≡ min (length rest) (length out - to) → piece ≡ take kept rest → after ≡ put_mid to kept out piece
+    → ◌≡◌ {A = Written} (record { lent = n; skip = skip - passed; bytes = take (to + kept) after; left = drop (to + kept) after }) (with_more (record { lent = n; skip = skip; bytes = take to out; left = drop to out }) w)
 unfolding with_more
-piece_written room skip passed kept bytes w rest piece e r f p =
-    let least : kept ≡ min (room - length bytes) (length rest) = omega arith in
-    let whole : piece ≡ take (room - length bytes) (drop skip w) =
-    p ∙ rw least (take_min (room - length bytes) rest) ∙ ap (take (room - length bytes)) (r ∙ rw e (drop_min skip w))
+piece_written n skip passed kept to out after w rest piece e r h k p a =
+    let left = drop to out in
+    let long : length rest ≡ length w - skip = omega (arith, ap (λ (xs : List ℕ). length xs) r, length-drop passed w) in
+    let least : kept ≡ min (length left) (length rest) = omega (arith, length-drop to out) in
+    let most : kept ≡ min (length w - skip) (length left) = omega (arith, length-drop to out) in
+    let whole : piece ≡ take (length left) (drop skip w) =
+    p ∙ rw least (take_min (length left) rest) ∙ ap (take (length left)) (r ∙ rw e (drop_min skip w))
     in
-    same_written _ _ _ _ (omega arith) (ap (λ (v : List ℕ). bytes ++ v) whole)
+    let size : length piece ≡ kept = omega (arith, ap (λ (xs : List ℕ). length xs) p, length-take kept rest) in
+    same_written n (omega arith)
+    (rw a (take-put_mid to kept out piece (to + kept) (omega arith) h) ∙ ap (λ (v : List ℕ). take to out ++ v) whole)
+    (rw a (drop-put_mid to kept out piece (to + kept) (omega arith) h size) ∙ sym (drop-drop kept to out) ∙ rw most (drop_min (length w - skip) left))
+
+-- of a piece that begins where the slice is full, nothing is written
+pub none_written : (n skip passed to : ℕ) (out w : List ℕ) → passed ≡ min skip (length w) → length out ≤ to
+    → ◌≡◌ {A = Written} (record { lent = n; skip = skip - passed; bytes = take to out; left = drop to out }) (with_more (record { lent = n; skip = skip; bytes = take to out; left = drop to out }) w)
+unfolding with_more
+none_written n skip passed to out w e h =
+    rw (drop_all to out h, drop-nil {A = ℕ} (length w - skip))
+    (same_written n (omega arith) (sym (append-nil (take to out))) refl)

@@ -1,7 +1,7 @@
 // Bytes as people see them: those that are not printed stand behind a backslash.
 ghost use Rattle.std.specs.Prelude.{◌≡◌, ◌<◌, Option};
 ghost use Rattle.wording.specs.Shown.{hex_digit, escape_in, shown_byte, shown};
-ghost use Rattle.wording.specs.Writing.{with_more};
+ghost use Rattle.wording.specs.Writing.{written, with_more};
 
 use crate::writing::Part;
 
@@ -30,8 +30,8 @@ fn escape_of(b: u8) -> Option<u8>
 
 // Writes a byte as it is shown.
 #[tactic(auto, unfolding(crate::specs::Shown::shown_byte, crate::specs::Shown::is_printed, crate::specs::Shown::escape_in))]
-fn put_shown_byte<const N: usize>(out: &mut Part<N>, b: u8)
-    ensures { out.new ≡ with_more N out.old (shown_byte b) }
+fn put_shown_byte(out: &mut Part, b: u8)
+    ensures { written out.new ≡ with_more (written out.old) (shown_byte b) }
 {
     if let Some(letter) = escape_of(b) {
         return out.push(&[b'\\', letter]);
@@ -43,8 +43,8 @@ fn put_shown_byte<const N: usize>(out: &mut Part<N>, b: u8)
 }
 
 // Writes bytes as they are shown.
-pub fn put_shown<const N: usize>(out: &mut Part<N>, s: &[u8])
-    ensures { out.new ≡ with_more N out.old (shown s.now) }
+pub fn put_shown(out: &mut Part, s: &[u8])
+    ensures { written out.new ≡ with_more (written out.old) (shown s.now) }
 {
     for b in s {
         put_shown_byte(out, *b);

@@ -1,58 +1,59 @@
-// A text written piece by piece, of which the part from a given byte on is kept.
+// A text written piece by piece, of which the lent slice gets the part from a given byte on.
 ghost use Rattle.std.specs.Prelude.{◌≡◌, ◌≤◌, [], length};
 ghost use Rattle.rules.specs.Number.{decimal};
-ghost use Rattle.wording.specs.Writing.{Written, with_more};
+ghost use Rattle.wording.specs.Writing.{written, with_more};
 
-use std::marker::Model;
 use text::bytes::Bytes;
 
-// The part of a text: how many of the bytes to come are still passed over, and the bytes kept. Clauses see both.
+// The part of a text: how many of the bytes to come are still passed over, and the lent slice, with how many bytes stand at
+// its front. No `Model`: its caller would not learn what the lent slice ends as.
 #[derive(Drop)]
-pub struct Part<const N: usize> {
+pub struct Part<'a> {
     skip: usize,
-    bytes: Bytes<N>,
+    to: usize,
+    out: &'a mut [u8],
 }
 
-impl<const N: usize> Model for Part<N> {
-    ghost Value = { Written };
-
-    ghost view = { λ p. record { skip = p.skip; bytes = p.bytes } };
-}
-
-impl<const N: usize> Part<N> {
+impl<'a> Part<'a> {
     // The part from byte `from` on, of which nothing is written yet.
-    pub fn new(from: usize) -> Self
-        ensures { result ≡ record { skip = from; bytes = [] } }
+    #[tactic(auto, unfolding(crate::specs::Writing::written))]
+    pub fn new(from: usize, out: &'a mut [u8]) -> Self
+        ensures { written result ≡ record { lent = out.entry.ghost_name; skip = from; bytes = []; left = out.old } }
     {
         Part {
             skip: from,
-            bytes: Bytes::new(),
+            to: 0,
+            out,
         }
     }
 
     // The bytes kept.
+    #[tactic(auto, unfolding(crate::specs::Writing::written))]
     pub fn as_slice(&self) -> &[u8]
-        ensures value { result.now ≡ self.now.bytes }
-        ensures within { length self.now.bytes ≤ N }
+        ensures value { result.now ≡ (written self.now).bytes }
+        ensures within { length result.now ≤ length self.now.out.now }
     {
-        self.bytes.as_slice()
+        &self.out[..self.to.min(self.out.len())]
     }
 
     // Writes the bytes of a word.
     pub fn push(&mut self, word: &[u8])
-        ensures { self.new ≡ with_more N self.old word.now }
+        ensures { written self.new ≡ with_more (written self.old) word.now }
     {
         let passed = self.skip.min(word.len());
         let rest = &word[passed..];
-        let kept = rest.len().min(N - self.bytes.as_slice().len());
         self.skip -= passed;
-        self.bytes.push(&rest[..kept]);
+        if self.to < self.out.len() {
+            let kept = rest.len().min(self.out.len() - self.to);
+            self.out[self.to..self.to + kept].copy_from_slice(&rest[..kept]);
+            self.to += kept;
+        }
     }
 
     // Writes the digits of a number.
     #[tactic(auto, using(text::proofs::Decimal::decimal_most))]
     pub fn push_number(&mut self, x: u64)
-        ensures { self.new ≡ with_more N self.old (decimal x) }
+        ensures { written self.new ≡ with_more (written self.old) (decimal x) }
     {
         let mut digits: Bytes<20> = Bytes::new();
         digits.push_number(x);

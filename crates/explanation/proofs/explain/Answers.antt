@@ -1,27 +1,28 @@
--- The whole text is written from its beginning, and leaves its part.
-use Rattle.std.proofs.Common.{◌∙◌, ap, Ok, Err}
-use Rattle.rules.specs.Refusals.{refusal_view}
-use Rattle.plan.specs.View.{plan_view}
-use Rattle.plan.proofs.Accepted.{read_as}
-use Rattle.refusal.specs.Refused.{refused_text}
-use Rattle.explanation.specs.Places.{accepted_text}
-use Rattle.wording.specs.Writing.{Written, with_more}
-use Rattle.wording.proofs.Pieces.{more_part}
-use Rattle.explanation.proofs.PlaceTexts.{explained_accepted, explained_refused}
+-- The whole text is written from its beginning, and leaves its part at the front of the lent slice.
+use Rattle.std.proofs.Common.{rules, ◌∙◌, sym, ap, arith, length, drop, List, ℕ}
+use Rattle.std.proofs.lemmas.List.{length-take}
+use Rattle.wording.specs.Writing.{Written, part, written, with_more}
+use Rattle.wording.proofs.Pieces.{part_stands}
+use Rattle.explanation.specs.Explained.{explained}
 use Rattle.explanation.proofs.explain.Goals as goal
 
-pub returns-in-Ok : goal.returns-in-Ok
-returns-in-Ok g c =
-    let s = c.args.bytes.now in
-    let p = c.in-Ok.plan in
-    let text = accepted_text (plan_view p) in
-    rw (explained_accepted s p (read_as s (Ok p) c.in-Ok.ensures.value)) (ap (λ (v : Written). v.bytes) (c.put_accepted.ensures ∙ ap (λ (v : Written). with_more g.row.N v text) c.new-out.ensures) ∙ more_part g.row.N c.args.from text)
+pub returns-clause-explain_called : goal.returns-clause-explain_called
+unfolding part written with_more
+returns-clause-explain_called c =
+    let text = explained c.args.bytes.now in
+    let e = c.put_explained.ensures ∙ ap (λ (p : Written). with_more p text) c.new-part.ensures in
+    let name = sym (ap (λ (p : Written). p.lent) e) in
+    let stands = part_stands c.put_explained.new.out _ _ _ text e in
+    let kept = c.as_slice.ensures.value ∙ ap (λ (p : Written). p.bytes) e in
+    record {
+      count = omega (arith, ap (λ (xs : List ℕ). length xs) kept);
+      slice = search rules;
+    }
 
-pub returns-in-Err : goal.returns-in-Err
-returns-in-Err g c =
-    let s = c.args.bytes.now in
-    let q = c.in-Err.refused in
-    let text = refused_text s (refusal_view q) in
-    rw (explained_refused s (refusal_view q) (read_as s (Err q) c.in-Err.ensures.value)) (
-    ap (λ (v : Written). v.bytes) (c.put_refusal.ensures ∙ ap (λ (v : Written). with_more g.row.N v text) c.new-out.ensures) ∙ more_part g.row.N c.args.from text
-    )
+pub returns-clause-upper_bound : goal.returns-clause-upper_bound
+unfolding written with_more
+returns-clause-upper_bound c =
+    let text = explained c.args.bytes.now in
+    let e = c.put_explained.ensures ∙ ap (λ (p : Written). with_more p text) c.new-part.ensures in
+    let kept = c.as_slice.ensures.value ∙ ap (λ (p : Written). p.bytes) e in
+    omega (arith, ap (λ (xs : List ℕ). length xs) kept, length-take (length c.args.out.now) (drop c.args.from text))
