@@ -122,12 +122,13 @@ fn horizon_of(s: &[u8]) -> u32
 fn put_number_line(out: &mut Part, refused: Refusal)
     ensures { written out.new ≡ with_more (written out.old) (refusal_line (number_of refused.fault) refused.line) }
 {
+    let number = u32::from(refused.fault);
     out.push(b"refused ");
-    out.push_number(u64::from(u32::from(refused.fault)));
+    out.push_number(u64::from(number));
     out.push(b" at line ");
     out.push_number(u64::from(refused.line));
     out.push(b": ");
-    out.push(refusal_words(refused.fault));
+    out.push(refusal_words(number));
     out.push(b"\n");
 }
 

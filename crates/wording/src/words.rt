@@ -1,32 +1,25 @@
 // What a refusal, a condition and a line's field are, in words.
 ghost use Rattle.std.specs.Prelude.{◌≡◌};
-ghost use Rattle.rules.specs.Refusals.{number_of};
 ghost use Rattle.wording.specs.Words.{refusal_words, condition_words, plan_field_words, act_field_words};
 ghost use Rattle.wording.specs.Words.{line_words, field_words};
 
-use rules::Fault;
-
-// What the refusal of this fault is; no words for those of a call, which no file has.
+// What the refusal of this number is; no words for those of a call, which no file has, nor for numbers that are none.
 #[tactic(auto, unfolding(crate::specs::Words::refusal_words))]
-pub fn refusal_words(fault: Fault) -> &'static [u8]
-    ensures { result.now ≡ refusal_words (number_of fault) }
+pub fn refusal_words(number: u32) -> &'static [u8]
+    ensures { result.now ≡ refusal_words number }
 {
-    match fault {
-        Fault::TooLong => b"the file has more than 60000 bytes",
-        Fault::NotFormed =>
-            b"the first word or the number of fields is wrong, or the line does not end in LF",
-        Fault::Malformed =>
-            b"a number or an item of a list is not written as it must be, or the field is empty",
-        Fault::OutOfRange => b"a number is out of its range",
-        Fault::TooMany => b"this is the 65th activity line, and a plan has at most 64",
-        Fault::Repeated => b"an earlier line has the same id",
-        Fault::Misplaced => b"after names an id that no activity at an earlier place has",
-        Fault::NotRising =>
-            b"the list does not rise, a window ends before it begins, or there are too many items",
-        Fault::OutOfReach =>
-            b"with nothing placed, the charge at the horizon is under the handover charge",
-        Fault::NoRoom | Fault::NoPlace | Fault::NoSet => b"",
-        Fault::OutOfWindow => b"a preferred tick lies outside its window",
+    match number {
+        1 => b"the file has more than 60000 bytes",
+        2 => b"the first word or the number of fields is wrong, or the line does not end in LF",
+        3 => b"a number or an item of a list is not written as it must be, or the field is empty",
+        4 => b"a number is out of its range",
+        5 => b"this is the 65th activity line, and a plan has at most 64",
+        6 => b"an earlier line has the same id",
+        7 => b"after names an id that no activity at an earlier place has",
+        8 => b"the list does not rise, a window ends before it begins, or there are too many items",
+        9 => b"with nothing placed, the charge at the horizon is under the handover charge",
+        13 => b"a preferred tick lies outside its window",
+        _ => b"",
     }
 }
 
