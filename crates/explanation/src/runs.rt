@@ -5,7 +5,7 @@ ghost use Rattle.explanation.specs.Tabled.{runs_in};
 ghost use Rattle.wording.specs.Writing.{written, with_more};
 
 use rules::Interval;
-use schedule::runs::{Runs, count_runs};
+use schedule::runs::Runs;
 use schedule::table::Table;
 use wording::writing::Part;
 
@@ -20,26 +20,27 @@ fn put_run(out: &mut Part, run: Interval)
     out.push_number(u64::from(run.last));
 }
 
-// Writes the runs of starts that meet the set.
+// Writes the runs that are left.
 #[tactic(auto, using(std::proofs::lemmas::Grind::common_steps, wording::proofs::Pieces::more_then, wording::proofs::Pieces::more_none), unfolding(crate::specs::Places::run_texts))]
-fn put_each_run(out: &mut Part, table: &Table, set: u16)
-    ensures { written out.new ≡ with_more (written out.old) (run_texts (runs_in table.now.sets.now set)) }
+fn put_each_run(out: &mut Part, runs: Runs)
+    ensures { written out.new ≡ with_more (written out.old) (run_texts runs.entry) }
 {
-    for run in Runs::new(table, set) {
+    for run in runs {
         put_run(out, run);
     }
 }
 
 // Writes the runs of starts that meet the set, or that there is none.
-#[tactic(auto, unfolding(crate::specs::Places::runs_text))]
+#[tactic(auto, using(std::proofs::lemmas::Grind::common_steps, wording::proofs::Pieces::more_then), unfolding(crate::specs::Places::runs_text, crate::specs::Places::run_texts))]
 fn put_runs(out: &mut Part, table: &Table, set: u16)
     ensures { written out.new ≡ with_more (written out.old) (runs_text (runs_in table.now.sets.now set)) }
 {
-    if count_runs(table, set) == 0 {
-        out.push(b" none");
-    } else {
-        put_each_run(out, table, set);
-    }
+    let mut runs = Runs::new(table, set);
+    let Some(first) = runs.next() else {
+        return out.push(b" none");
+    };
+    put_run(out, first);
+    put_each_run(out, runs);
 }
 
 // Writes a line of the runs of starts that meet the set, behind these words. The set stays an argument: `put_letter` asks
