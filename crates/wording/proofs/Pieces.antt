@@ -1,8 +1,9 @@
 -- A text written piece by piece.
 -- Assumes nothing.
 use Rattle.std.proofs.Common.{min, ◌≡◌, ◌≤◌, ℕ, zero, suc, ◌+◌, ◌-◌, List, [], ◌∷◌, ◌++◌, length, take, drop, refl, sym, ap, ap₂, ◌∙◌, arith, append_assoc, length-append}
-use Rattle.std.proofs.lemmas.List.{length-take, length-drop, take_min, drop_min, drop-drop, drop_all, take-append-drop}
+use Rattle.std.proofs.lemmas.List.{length-take, length-drop, take_min, drop_min, drop-drop, drop_all, take-append-drop, take_more_set, drop-set-lt}
 use Rattle.std.proofs.lemmas.Slice.{take-put_mid, drop-put_mid}
+use Rattle.std.specs.Prelude.{slice_set, ◌<◌}
 use borrow.Rule.Slice.PartMut.{put_mid}
 use mathlib.Core.List.{append-nil}
 use lib.Seq.{take-nil, drop-nil}
@@ -111,3 +112,22 @@ unfolding with_more
 none_written n skip passed to out w e h =
     rw (drop_all to out h, drop-nil {A = ℕ} (length w - skip))
     (same_written n (omega arith) (sym (append-nil (take to out))) refl)
+
+-- one byte more, as the code passes it over
+pub byte_passed : (n skip b : ℕ) (bytes left : List ℕ) → 0 < skip
+    → ◌≡◌ {A = Written} (record { lent = n; skip = skip - 1; bytes = bytes; left = left }) (with_more (record { lent = n; skip = skip; bytes = bytes; left = left }) (b ∷ []))
+unfolding with_more
+byte_passed n zero b bytes left h = absurd (omega (arith, h))
+byte_passed n (suc k) b bytes left h =
+    let none : 1 - suc k ≡ 0 = omega arith in
+    same_written n refl (sym (rw (drop-nil {A = ℕ} k, take-nil {A = ℕ} (length left)) (append-nil bytes))) (sym (rw none refl))
+
+-- and as it writes it behind the first bytes of the slice
+pub byte_written : (n to b : ℕ) (out : List ℕ) → to < length out
+    → ◌≡◌ {A = Written} (record { lent = n; skip = 0; bytes = take (to + 1) (slice_set out to b); left = drop (to + 1) (slice_set out to b) }) (with_more (record { lent = n; skip = 0; bytes = take to out; left = drop to out }) (b ∷ []))
+unfolding with_more
+byte_written n to b out h = same_written n refl (take_more_set out to b h ∙ ap (λ (w : List ℕ). take to out ++ w) (one (length (drop to out)) (omega (arith, length-drop to out, h)))) (drop-set-lt (to + 1) out to b (omega arith) ∙ sym (drop-drop 1 to out))
+  where
+    one : (m : ℕ) → 0 < m → b ∷ [] ≡ take m (b ∷ [])
+    one zero k = absurd (omega (arith, k))
+    one (suc m) k = rw (take-nil {A = ℕ} m) refl

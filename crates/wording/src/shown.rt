@@ -29,17 +29,21 @@ fn escape_of(b: u8) -> Option<u8>
 }
 
 // Writes a byte as it is shown.
-#[tactic(auto, unfolding(crate::specs::Shown::shown_byte, crate::specs::Shown::is_printed, crate::specs::Shown::escape_in))]
+#[tactic(auto, using(crate::proofs::Pieces::more_then), unfolding(crate::specs::Shown::shown_byte, crate::specs::Shown::is_printed, crate::specs::Shown::escape_in))]
 fn put_shown_byte(out: &mut Part, b: u8)
     ensures { written out.new ≡ with_more (written out.old) (shown_byte b) }
 {
     if let Some(letter) = escape_of(b) {
-        return out.push(&[b'\\', letter]);
+        out.push_byte(b'\\');
+        return out.push_byte(letter);
     }
     if b < 32 || 126 < b {
-        return out.push(&[b'\\', b'x', hex_digit(b / 16), hex_digit(b % 16)]);
+        out.push_byte(b'\\');
+        out.push_byte(b'x');
+        out.push_byte(hex_digit(b / 16));
+        return out.push_byte(hex_digit(b % 16));
     }
-    out.push(&[b]);
+    out.push_byte(b);
 }
 
 // Writes bytes as they are shown.

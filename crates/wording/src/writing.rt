@@ -1,5 +1,5 @@
 // A text written piece by piece, of which the lent slice gets the part from a given byte on.
-ghost use Rattle.std.specs.Prelude.{◌≡◌, ◌≤◌, [], length};
+ghost use Rattle.std.specs.Prelude.{◌≡◌, ◌≤◌, [], ◌∷◌, length};
 ghost use Rattle.rules.specs.Number.{decimal};
 ghost use Rattle.wording.specs.Writing.{written, with_more};
 
@@ -47,6 +47,20 @@ impl<'a> Part<'a> {
             let kept = rest.len().min(self.out.len() - self.to);
             self.out[self.to..self.to + kept].copy_from_slice(&rest[..kept]);
             self.to += kept;
+        }
+    }
+
+    // Writes a byte.
+    pub fn push_byte(&mut self, b: u8)
+        ensures { written self.new ≡ with_more (written self.old) (b ∷ []) }
+    {
+        if 0 < self.skip {
+            self.skip -= 1;
+            return;
+        }
+        if self.to < self.out.len() {
+            self.out[self.to] = b;
+            self.to += 1;
         }
     }
 
