@@ -21,7 +21,7 @@ pub struct Header {
 
 // An activity line. A window has its first start, its preferred tick and its last start, a need or a set its variable and value,
 // an id or a unit its number.
-#[derive(Drop)]
+#[derive(Clone, Copy)]
 pub struct Activity {
     pub id: u32,
     pub priority: u32,

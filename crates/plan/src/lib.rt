@@ -16,7 +16,7 @@ use order::Lines;
 pub use reading::read;
 
 // A plan that can be placed: the bytes of its file, its header, and for each place the line of its activity.
-#[derive(Drop)]
+#[derive(Clone, Copy)]
 pub struct Plan<'a> {
     pub bytes: &'a [u8],
     pub header: Header,

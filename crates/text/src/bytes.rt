@@ -8,7 +8,7 @@ use std::marker::Model;
 
 // At most N bytes. Clauses see the list of those written. A struct around a `List`, since only a type's own crate gives it
 // methods.
-#[derive(Drop)]
+#[derive(Clone, Copy)]
 pub struct Bytes<const N: usize> {
     written: List<u8, N>,
 }
@@ -19,6 +19,8 @@ impl<const N: usize> Model for Bytes<N> {
     ghost Value = { List ℕ };
 
     ghost view = { λ b. b.written };
+
+    ghost inverse = { λ xs. record { written = xs } };
 }
 
 impl<const N: usize> Bytes<N> {
