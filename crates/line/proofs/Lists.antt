@@ -89,14 +89,14 @@ again : (a b : Bool) → a && b ≡ a && b && b
 again true b = twice b
 again false b = refl
 
-pub windows_are : (s : List ℕ) → list_field window_kind s ≡ mapped window_of (list_field (kind_of window_form 4) s)
+pub windows_are : (s : List ℕ) → list_field window_kind s ≡ mapped window_of (list_field (kind_of window_form) s)
 unfolding is_item item_of
-windows_are s = same_list (kind_of window_form 4) window_kind window_of (record { items_same = λ p. refl; item = λ p. refl; range = λ p. refl; lows = λ p. refl; highs = λ p. refl; mosts = refl; windows = λ p. refl }) s
+windows_are s = same_list (kind_of window_form) window_kind window_of (record { items_same = λ p. refl; item = λ p. refl; range = λ p. refl; lows = λ p. refl; highs = λ p. refl; mosts = refl; windows = λ p. refl }) s
 
-pub settings_are : (s : List ℕ) → list_field setting_kind s ≡ mapped setting_of (list_field (kind_of setting_form 4) s)
+pub settings_are : (s : List ℕ) → list_field setting_kind s ≡ mapped setting_of (list_field (kind_of setting_form) s)
 unfolding is_item item_of
-settings_are s = same_list (kind_of setting_form 4) setting_kind setting_of (record { items_same = λ p. refl; item = λ p. refl; range = λ p. again (within 0 7 (part_of 61 0 p)) (within 0 255 (part_of 61 1 p)); lows = λ p. refl; highs = λ p. refl; mosts = refl; windows = λ p. refl }) s
+settings_are s = same_list (kind_of setting_form) setting_kind setting_of (record { items_same = λ p. refl; item = λ p. refl; range = λ p. again (within 0 7 (part_of 61 0 p)) (within 0 255 (part_of 61 1 p)); lows = λ p. refl; highs = λ p. refl; mosts = refl; windows = λ p. refl }) s
 
-pub numbers_are : (hi most : ℕ) (s : List ℕ) → list_field (numbers hi most) s ≡ mapped number_of (list_field (kind_of (number_form hi) most) s)
+pub numbers_are : (hi most : ℕ) (s : List ℕ) → list_field (numbers hi most) s ≡ mapped number_of (list_field (kind_of (number_form hi most)) s)
 unfolding is_item item_of
-numbers_are hi most s = same_list (kind_of (number_form hi) most) (numbers hi most) number_of (record { items_same = λ p. refl; item = λ p. refl; range = λ p. twice (within 0 hi (value_of p)) ∙ again (within 0 hi (value_of p)) (within 0 hi (value_of p)); lows = λ p. refl; highs = λ p. refl; mosts = refl; windows = λ p. refl }) s
+numbers_are hi most s = same_list (kind_of (number_form hi most)) (numbers hi most) number_of (record { items_same = λ p. refl; item = λ p. refl; range = λ p. twice (within 0 hi (value_of p)) ∙ again (within 0 hi (value_of p)) (within 0 hi (value_of p)); lows = λ p. refl; highs = λ p. refl; mosts = refl; windows = λ p. refl }) s

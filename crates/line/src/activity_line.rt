@@ -20,18 +20,20 @@ pub fn windows() -> Form
         most_first: 4095,
         most_others: 4095,
         spans: true,
+        most: 4,
     }
 }
 
-// Numbers from 0 to hi.
-pub fn numbers(hi: u32) -> Form
-    ensures { result ≡ number_form hi }
+// At most `most` numbers from 0 to hi.
+pub fn numbers(hi: u32, most: usize) -> Form
+    ensures { result ≡ number_form hi most }
 {
     Form {
         shape: Shape::One,
         most_first: hi,
         most_others: hi,
         spans: false,
+        most,
     }
 }
 
@@ -44,6 +46,7 @@ pub fn settings() -> Form
         most_first: 7,
         most_others: 255,
         spans: false,
+        most: 4,
     }
 }
 
@@ -61,8 +64,8 @@ pub fn read_activity(l: &[u8], header: &Header) -> Result<Activity, Fault>
         duration: fields.number(1, header.horizon)?,
         preferred: fields.number(0, 4095)?,
         windows: fields.list(windows())?,
-        after: fields.list(numbers(65535))?,
-        units: fields.list(numbers(31))?,
+        after: fields.list(numbers(65535, 8))?,
+        units: fields.list(numbers(31, 32))?,
         needs: fields.list(settings())?,
         sets: fields.list(settings())?,
         engines: fields.number(0, 64)?,

@@ -74,10 +74,10 @@ impl<'a> Fields<'a> {
         number_in(self.next(), lo, hi)
     }
 
-    // The next field, a list of this form, of at most N items.
+    // The next field, a list of this form.
     pub fn list<const N: usize>(&mut self, form: Form) -> Result<Items<N>, Fault>
-        requires { N ≤ 32 }
-        ensures value { read_as (λ xs. xs) result ≡ list_field (kind_of form N) (field self.old 0) }
+        requires { (form.most ≤ N) × (N ≤ 32) }
+        ensures value { read_as (λ xs. xs) result ≡ list_field (kind_of form) (field self.old 0) }
         ensures rest { self.new ≡ drop 1 self.old }
     {
         read_list(self.next(), form)

@@ -83,9 +83,9 @@ module _ {A : Type 0} (k : Kind A) where
 
 -- ---- items of a form
 
-module _ (f : Form) (n a b c : ℕ) where
+module _ (f : Form) (a b c : ℕ) where
   -- the numbers of an item are in the form's range
-  pub inside : a ≤ f.most_first → max b c ≤ f.most_others → (kind_of f n).in_range (item a b c) ≡ true
+  pub inside : a ≤ f.most_first → max b c ≤ f.most_others → (kind_of f).in_range (item a b c) ≡ true
   unfolding within
   inside h k =
       let z : (x : ℕ) → 0 ≤ x = λ x. omega arith in
@@ -93,20 +93,20 @@ module _ (f : Form) (n a b c : ℕ) where
       let kc : c ≤ f.most_others = omega arith in
       simp (le-leb _ _ (z a), le-leb _ _ (z b), le-leb _ _ (z c), le-leb _ _ h, le-leb _ _ kb, le-leb _ _ kc)
 
-  pub outside_first : f.most_first < a → (kind_of f n).in_range (item a b c) ≡ false
+  pub outside_first : f.most_first < a → (kind_of f).in_range (item a b c) ≡ false
   unfolding within
   outside_first h = simp (lt-leb _ _ h, and-false)
 
-  pub outside_others : f.most_others < max b c → (kind_of f n).in_range (item a b c) ≡ false
+  pub outside_others : f.most_others < max b c → (kind_of f).in_range (item a b c) ≡ false
   unfolding within
   outside_others h = grind (arith, nat_tests)
 
 -- which items are in their windows, where they have any
-module _ (f : Form) (n : ℕ) where
-  pub spanning : (xs : List Item) → f.spans ≡ true → every (kind_of f n).in_window xs ≡ list_all second_inside xs
+module _ (f : Form) where
+  pub spanning : (xs : List Item) → f.spans ≡ true → every (kind_of f).in_window xs ≡ list_all second_inside xs
   spanning xs e = rw e (every_is second_inside xs)
 
-  pub not_spanning : (xs : List Item) → f.spans ≡ false → every (kind_of f n).in_window xs ≡ true
+  pub not_spanning : (xs : List Item) → f.spans ≡ false → every (kind_of f).in_window xs ≡ true
   unfolding every
   not_spanning [] e = refl
   not_spanning (x ∷ xs) e = rw e (not_spanning xs e)

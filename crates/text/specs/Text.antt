@@ -49,15 +49,15 @@ item_is shape s = let i = item_of shape s in cond (is_item shape s) (Some (i.fir
 abbrev pub second_inside : Item → Bool
 second_inside i = within i.first i.third i.second
 
--- the rules' kind of list that a form is, of at most `most` items
-abbrev pub kind_of : Form → ℕ → Kind Item
-kind_of f most =
+-- the rules' kind of list that a form is
+abbrev pub kind_of : Form → Kind Item
+kind_of f =
     record {
       is_item = is_item f.shape;
       item_of = item_of f.shape;
       in_range = λ x. within 0 f.most_first x.first && within 0 f.most_others x.second && within 0 f.most_others x.third;
       low = λ x. x.first;
       high = λ x. cond f.spans x.third x.first;
-      most = most;
+      most = f.most;
       in_window = λ x. cond f.spans (second_inside x) true;
     }

@@ -1,6 +1,6 @@
 // List fields: items parted by commas, each a number, or two or three with a byte between each two, with the faults 3, 4, 8
 // and 13 over the whole field.
-ghost use Rattle.std.specs.Prelude.{◌≡◌, ◌≤◌, true, List, [], ◌∷◌, ℕ, length};
+ghost use Rattle.std.specs.Prelude.{◌≡◌, ◌≤◌, true, List, [], ◌∷◌, ℕ, IfOk, length};
 ghost use Rattle.std.specs.List.{list_all};
 ghost use Rattle.rules.specs.Fields.{list_field};
 ghost use Rattle.rules.specs.Refusals.{read_as};
@@ -20,15 +20,17 @@ pub enum Shape {
     Three(u8),
 }
 
-// A kind of list: how its items are written; the greatest first number and the greatest of the others; and whether an item
-// spans its first to its third number, so that its second is between them and the next item begins behind the third. `spans`
-// picks which numbers are compared; closures in its place would be carried through `Fields::list`.
+// A kind of list: how its items are written; the greatest first number and the greatest of the others; whether an item
+// spans its first to its third number, so that its second is between them and the next item begins behind the third; and how
+// many items there may be. `spans` picks which numbers are compared; closures in its place would be carried through
+// `Fields::list`.
 #[derive(Clone, Copy)]
 pub struct Form {
     pub shape: Shape,
     pub most_first: u32,
     pub most_others: u32,
     pub spans: bool,
+    pub most: usize,
 }
 
 // The K numbers with the byte `mark` between each two that all of s is.
@@ -87,14 +89,16 @@ struct Tally<const N: usize> {
 impl<const N: usize> Tally<N> {
     // One more item, a, b and c.
     fn count_in(&mut self, a: u64, b: u64, c: u64, form: Form)
-        ensures { (p : List ℕ) (ps : List (List ℕ)) → is_item form.shape p ≡ true → item_of form.shape p ≡ item a b c → items_from (kind_of form N) self.old.fault self.old.least self.old.items (p ∷ ps) ≡ items_from (kind_of form N) self.new.fault self.new.least self.new.items ps }
+        requires { (form.most ≤ N) × (length self.old.items ≤ form.most) }
+        ensures few { length self.new.items ≤ form.most }
+        ensures value { (p : List ℕ) (ps : List (List ℕ)) → is_item form.shape p ≡ true → item_of form.shape p ≡ item a b c → items_from (kind_of form) self.old.fault self.old.least self.old.items (p ∷ ps) ≡ items_from (kind_of form) self.new.fault self.new.least self.new.items ps }
     {
         if u64::from(form.most_first) < a || u64::from(form.most_others) < b.max(c) {
             self.fault = Some(Fault::OutOfRange);
             return;
         }
         let high = if form.spans { c } else { a };
-        if a < self.least || high < a || self.items.len() == N {
+        if a < self.least || high < a || form.most <= self.items.len() {
             self.fault = self.fault.or(Some(Fault::NotRising));
             return;
         }
@@ -108,7 +112,9 @@ impl<const N: usize> Tally<N> {
 
     // What the whole list says, once its last item is counted in.
     fn finish(self, form: Form) -> Result<Items<N>, Fault>
-        ensures { read_as (λ xs. xs) result ≡ items_from (kind_of form N) self.entry.fault self.entry.least self.entry.items [] }
+        requires { length self.items ≤ form.most }
+        ensures value { read_as (λ xs. xs) result ≡ items_from (kind_of form) self.entry.fault self.entry.least self.entry.items [] }
+        ensures within { IfOk result (λ items. length items ≤ form.most) }
     {
         if let Some(fault) = self.fault {
             return Err(fault);
@@ -120,11 +126,12 @@ impl<const N: usize> Tally<N> {
     }
 }
 
-// The list field s of this form, of at most N items.
+// The list field s of this form.
 pub fn read_list<const N: usize>(s: &[u8], form: Form) -> Result<Items<N>, Fault>
     // Calls that change a tally owe that its size is below 2 ^ 63.
-    requires { N ≤ 32 }
-    ensures { read_as (λ xs. xs) result ≡ list_field (kind_of form N) s.now }
+    requires { (form.most ≤ N) × (N ≤ 32) }
+    ensures value { read_as (λ xs. xs) result ≡ list_field (kind_of form) s.now }
+    ensures within { IfOk result (λ items. length items ≤ form.most) }
 {
     if s == b"-".as_slice() {
         return Ok(Items::new());

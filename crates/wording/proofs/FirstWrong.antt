@@ -23,11 +23,11 @@ unfolding mapped is_read
 read_mapped f (value xs) = refl
 read_mapped f (fault n) = refl
 
-pub windows_read : (s : List ℕ) → is_read (list_field (kind_of window_form 4) s) ≡ is_read (list_field window_kind s)
+pub windows_read : (s : List ℕ) → is_read (list_field (kind_of window_form) s) ≡ is_read (list_field window_kind s)
 windows_read s = sym (ap is_read (windows_are s) ∙ read_mapped _ _)
 
-pub settings_read : (s : List ℕ) → is_read (list_field (kind_of setting_form 4) s) ≡ is_read (list_field setting_kind s)
+pub settings_read : (s : List ℕ) → is_read (list_field (kind_of setting_form) s) ≡ is_read (list_field setting_kind s)
 settings_read s = sym (ap is_read (settings_are s) ∙ read_mapped _ _)
 
-pub numbers_read : (hi most : ℕ) (s : List ℕ) → is_read (list_field (kind_of (number_form hi) most) s) ≡ is_read (list_field (numbers hi most) s)
+pub numbers_read : (hi most : ℕ) (s : List ℕ) → is_read (list_field (kind_of (number_form hi most)) s) ≡ is_read (list_field (numbers hi most) s)
 numbers_read hi most s = sym (ap is_read (numbers_are hi most s) ∙ read_mapped _ _)

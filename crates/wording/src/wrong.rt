@@ -27,11 +27,11 @@ fn is_number(l: &[u8], k: usize, lo: u32, hi: u32) -> bool
     number_in(field_at(l, k), lo, hi).is_ok()
 }
 
-// Whether it is a list of this form, of at most N items, as few as `read_list` asks for.
+// Whether it is a list of this form.
 #[tactic(auto, unfolding(crate::specs::FirstWrong::is_read, rules::specs::Refusals::read_as))]
 fn is_list<const N: usize>(l: &[u8], k: usize, form: Form) -> bool
-    requires { N ≤ 32 }
-    ensures { result ≡ is_read (list_field (kind_of form N) (field (split_on 9 l.now) k)) }
+    requires { (form.most ≤ N) × (N ≤ 32) }
+    ensures { result ≡ is_read (list_field (kind_of form) (field (split_on 9 l.now) k)) }
 {
     read_list::<N>(field_at(l, k), form).is_ok()
 }
@@ -86,8 +86,8 @@ pub fn wrong_in_act(l: &[u8], horizon: u32) -> Option<u32>
         is_number(l, 3, 1, horizon),
         is_number(l, 4, 0, 4095),
         is_list::<4>(l, 5, windows()),
-        is_list::<8>(l, 6, numbers(65535)),
-        is_list::<32>(l, 7, numbers(31)),
+        is_list::<8>(l, 6, numbers(65535, 8)),
+        is_list::<32>(l, 7, numbers(31, 32)),
         is_list::<4>(l, 8, settings()),
         is_list::<4>(l, 9, settings()),
         is_number(l, 10, 0, 64),

@@ -10,22 +10,22 @@ use Rattle.text.proofs.Items.{from_start, from_bad}
 use Rattle.text.proofs.Numbers.{item_bad, item_good}
 use Rattle.text.proofs.list.read_list.Goals as goal
 
-pub returns-then-eq : goal.returns-then-eq
+pub returns-then-eq-clause-value : goal.returns-then-eq-clause-value
 unfolding list_field read_as
-returns-then-eq g c = rw (c.new.ensures, same_is c.args.s.now (bytes "-"), ← c.as_slice.ensures, ← c.if-eq.ensures) refl
+returns-then-eq-clause-value g c = rw (c.new.ensures, same_is c.args.s.now (bytes "-"), ← c.as_slice.ensures, ← c.if-eq.ensures) refl
 
 pub loop-part-init : goal.loop-part-init
 unfolding list_field
 loop-part-init g c =
     let parts : c.into_iter-part-iterator.result ≡ split_on 44 c.args.s.now = search rules in
-    rw (c.new-2.ensures, parts, same_is c.args.s.now (bytes "-"), ← c.as_slice.ensures, ← c.if-eq.ensures) (from_start (kind_of c.args.form g.row.N) _)
+    rw c.new-2.ensures (search rules, rw (parts, same_is c.args.s.now (bytes "-"), ← c.as_slice.ensures, ← c.if-eq.ensures) (from_start (kind_of c.args.form) _))
 
-pub returns-in_default : goal.returns-in_default
+pub returns-in_default-clause-value : goal.returns-in_default-clause-value
 unfolding read_as
-returns-in_default g c =
-    sym (c.loop-part.invariant ∙ rw c.in-Some.ensures.steps (from_bad (kind_of c.args.form g.row.N) _ _ _ _ _ (item_bad _ _ (sym c.in_default.ensures))))
+returns-in_default-clause-value g c =
+    sym (c.loop-part.invariant.1 ∙ rw c.in-Some.ensures.steps (from_bad (kind_of c.args.form) _ _ _ _ _ (item_bad _ _ (sym c.in_default.ensures))))
 
 pub loop-part-preserved : goal.loop-part-preserved
 loop-part-preserved g c =
     let one = item_good _ _ _ _ _ (sym c.in-Some-read_item.ensures) in
-    rw (← c.count_in.ensures _ _ one.0 one.1, ← c.in-Some.ensures.steps) c.loop-part.invariant
+    (c.count_in.ensures.few, rw (← c.count_in.ensures.value _ _ one.0 one.1, ← c.in-Some.ensures.steps) c.loop-part.invariant.1)

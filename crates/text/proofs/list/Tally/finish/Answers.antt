@@ -8,27 +8,25 @@ use Rattle.text.proofs.Items.{from_end, spanning, not_spanning}
 use Rattle.text.proofs.list.Tally.finish.Goals as goal
 use Rattle.text.proofs.list.Tally.finish.Goals.{else-form-via-then-form+else-not-are_inside, else-form-via-else-form}
 
-pub returns-in-Some : goal.returns-in-Some
+pub returns-in-Some-clause-value : goal.returns-in-Some-clause-value
 unfolding read_as found
-returns-in-Some g c = rw (from_end (kind_of c.args.form g.row.N) _ _ _ c.args.self.few, c.in-Some.is) refl
+returns-in-Some-clause-value g c = rw (from_end (kind_of c.args.form) _ _ _ c.requires, c.in-Some.is) refl
 
-pub returns-then-not-are_inside : goal.returns-then-not-are_inside
+pub returns-then-not-are_inside-clause-value : goal.returns-then-not-are_inside-clause-value
 unfolding read_as found
-returns-then-not-are_inside g c =
+returns-then-not-are_inside-clause-value g c =
     let f = c.args.form in
-    let n = g.row.N in
-    let out : every (kind_of f n).in_window c.args.self.items ≡ false = spanning f n c.args.self.items c.if-form.true ∙ rw (← c.as_slice.ensures.value) (sym c.are_inside.ensures) ∙ c.if-not-are_inside.true in
-    rw (from_end (kind_of f n) _ _ _ c.args.self.few, c.in_default.is, out) refl
+    let out : every (kind_of f).in_window c.args.self.items ≡ false = spanning f c.args.self.items c.if-form.true ∙ rw (← c.as_slice.ensures.value) (sym c.are_inside.ensures) ∙ c.if-not-are_inside.true in
+    rw (from_end (kind_of f) _ _ _ c.requires, c.in_default.is, out) refl
 
-pub returns : goal.returns
+pub returns-clause-value : goal.returns-clause-value
 unfolding read_as found
-returns g c =
+returns-clause-value g c =
     let f = c.args.form in
-    let n = g.row.N in
-    let all : every (kind_of f n).in_window c.args.self.items ≡ true =
+    let all : every (kind_of f).in_window c.args.self.items ≡ true =
     elim c.else-form.branch [
-      | else-form-via-then-form+else-not-are_inside w ↦ spanning f n c.args.self.items w.if-form.true ∙ rw (← w.as_slice.ensures.value) (sym w.are_inside.ensures) ∙ w.if-not-are_inside.false
-      | else-form-via-else-form w ↦ not_spanning f n c.args.self.items w.if-form.false
+      | else-form-via-then-form+else-not-are_inside w ↦ spanning f c.args.self.items w.if-form.true ∙ rw (← w.as_slice.ensures.value) (sym w.are_inside.ensures) ∙ w.if-not-are_inside.false
+      | else-form-via-else-form w ↦ not_spanning f c.args.self.items w.if-form.false
     ]
     in
-    rw (from_end (kind_of f n) _ _ _ c.args.self.few, c.in_default.is, all) refl
+    rw (from_end (kind_of f) _ _ _ c.requires, c.in_default.is, all) refl
