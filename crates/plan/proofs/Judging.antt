@@ -27,7 +27,8 @@ use Rattle.plan.specs.Reading.{reading_view}
 use Rattle.plan.specs.Reached.{lines_from, lines_view, first_from}
 use Rattle.plan.proofs.Ordering.{view_order}
 use Rattle.plan.proofs.Cutting.{line_with, lines_next, lines_last, not_ended, line_fields}
-use Rattle.plan.proofs.Lining.{form_is, form_not, of_value}
+use Rattle.plan.proofs.LineAt.{of_value}
+use Rattle.plan.proofs.Lining.{form_is, form_not}
 
 -- what a refusal is as a reading
 pub refused_view : (q : Refusal) → reading_view (Err q) ≡ no (number_of q.fault) q.line

@@ -1,16 +1,15 @@
 -- Laws of the activity lines: what one more line makes of them.
 -- Assumes nothing.
-use Rattle.std.proofs.Common.{arith, ◌≡◌, ◌∙◌, ◌≤◌, ◌<◌, ◌+◌, ℕ, suc, true, false, List, [], ◌∷◌, ◌++◌, map, length, drop, Ok, Err, refl, ap, subst}
+use Rattle.std.proofs.Common.{arith, ◌≡◌, ◌∙◌, ◌≤◌, ◌<◌, ◌+◌, ℕ, suc, true, false, List, [], ◌∷◌, ◌++◌, map, length, drop, Ok, Err, refl, ap}
 use Rattle.std.proofs.lemmas.List.{length-map, map-append, length-append}
 use Rattle.std.specs.List.{list_any}
 use borrow.Author.Tests.{le-leb, lt-leb}
 use Rattle.rules.specs.Bytes.{bytes}
 use Rattle.rules.specs.Lines.{split_on, ended, fields, lines}
-use Rattle.rules.specs.Fields.{Read, value, fault}
+use Rattle.rules.specs.Fields.{value, fault}
 use Rattle.rules.specs.Plan.{Header, Activity}
 use Rattle.rules.specs.ActivityLine.{activity_of}
 use Rattle.rules.specs.Reading.{no, formed, on_line, has_id, activity_lines}
-use Rattle.rules.proofs.Says.{Says, said, faulted}
 use Rattle.rules.proofs.ReadFacts.{formed_facts}
 use Rattle.rules.proofs.LineFacts.{ActivitySaid, activity_says}
 use Rattle.rules.specs.Refusals.{refusal_view}
@@ -24,7 +23,7 @@ use Rattle.plan.specs.Said.{said_by, LinesIn}
 use Rattle.plan.specs.Reached.{lines_from, line_from, lines_view}
 use Rattle.plan.proofs.Ids.{says_id, has_ids}
 use Rattle.plan.proofs.Cutting.{line_with, lines_end, lines_next, lines_last, not_ended, line_ended, line_fields}
-use Rattle.plan.proofs.LineAt.{line_to}
+use Rattle.plan.proofs.LineAt.{line_to, of_value}
 use Rattle.order.specs.declared.Line.{Line}
 
 -- a line's form, by what stands before its LF
@@ -36,11 +35,6 @@ form_is word count w = rw (line_ended w, line_fields w)
 pub form_not : (word : List ℕ) (count : ℕ) (line : List ℕ) → ended line ≡ false → formed word count line ≡ false
 unfolding formed
 form_not word count line e = rw e
-
--- what is said of a value
-pub of_value : {A : Type 0} {P : A → Type 0} {F : ℕ → Type 0} {x : Read A} {a : A} → Says P F x → x ≡ value a → P a
-of_value {P = P} (said p) e = subst P (cc) p
-of_value (faulted f) e = cc
 
 -- the numbers of an activity that a formed line says are of 16 bits
 pub narrow : (h : Header) (w : List ℕ) (v : ActivityStruct) → is_formed (bytes "act") 15 w ≡ true → activity_of h (split_on 9 w) ≡ value (activity_view v) → (v.id ≤ 65535) × (v.priority ≤ 65535)

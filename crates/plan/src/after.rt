@@ -8,7 +8,7 @@ ghost use Rattle.plan.specs.LineAt.{LineSays};
 ghost use Rattle.plan.specs.Said.{said_by, LinesIn};
 ghost use Rattle.plan.specs.Misplaced.{as_option};
 
-use crate::accessor::{File, activity_in};
+use crate::accessor::{File, after_at};
 use items::Item;
 use order::Line;
 
@@ -31,8 +31,8 @@ fn follows(file: &File, line: Line, earlier: &[Line]) -> bool
     requires { LineSays (header_view file.now.header) file.now.bytes.now line.at }
     ensures { result ≡ list_all (λ id. list_any (λ other. eqb other.id id) earlier.now) (said_by (header_view file.now.header) file.now.bytes.now line).after }
 {
-    let activity = activity_in(file, line.at);
-    all_said(activity.after.as_slice(), earlier)
+    let after = after_at(file.bytes, line.at);
+    all_said(after.as_slice(), earlier)
 }
 
 // The first of these lines of the file, by place, whose `after` names no activity at an earlier place. By a loop: the test
