@@ -1,1 +1,3 @@
 pub mod Ordering
+pub mod Finding
+pub mod Fronts

@@ -1,6 +1,6 @@
 -- The rules' tests of the ids of activities are those of the ids of their lines.
 -- Assumes nothing.
-use Rattle.std.proofs.Common.{arith, ◌≡◌, ◌+◌, ℕ, suc, Bool, true, false, cond, ◌||◌, List, [], ◌∷◌, map, eqb, add-one, Some, refl, sym, ap, ◌∙◌}
+use Rattle.std.proofs.Common.{arith, ◌≡◌, ◌+◌, ℕ, suc, Bool, true, false, cond, ◌||◌, List, [], ◌∷◌, map, eqb, add-one, Option, Some, refl, sym, ap, ◌∙◌}
 use Rattle.std.specs.List.{Contains, list_any, position, position_from}
 use Rattle.std.specs.List.Sorted.{IsPermutation}
 use Rattle.std.specs.Option.{IsSome, option_map, unwrap_or}
@@ -14,6 +14,7 @@ use Rattle.rules.specs.Tests.{any_of}
 use Rattle.rules.specs.Reading.{has_id, line_number}
 use Rattle.plan.specs.Said.{said_by, LineIn, LinesIn}
 use Rattle.order.specs.declared.Line.{Line}
+use Rattle.order.proofs.Finding.{position_of_id}
 
 -- whether a line says this id
 abbrev pub says_id : ℕ → Line → Bool
@@ -45,6 +46,10 @@ module _ (h : Header) (s : List ℕ) where
   -- the line of an id
   pub line_is : (xs : List Line) → LinesIn h s xs → (id : ℕ) → line_number id 2 (map (said_by h s) xs) ≡ unwrap_or (option_map (λ k. k + 2) (position (says_id id) xs)) 0
   line_is xs g id = line_ids xs g id 2 ∙ ap (λ o. unwrap_or o 0) (found_from (says_id id) 2 0 xs ∙ ap (option_map (λ k. k + 2)) (sym (position_from-zero (says_id id) xs)))
+
+-- what `line_of` answers of the lines' ids
+pub line_said : (lines : List Line) (id n : ℕ) (ids : List ℕ) (r : Option ℕ) → r ≡ option_map (λ k. k + 2) (position (λ x. eqb x n) ids) → ids ≡ map (λ (line : Line). line.id) lines → n ≡ id → r ≡ option_map (λ k. k + 2) (position (says_id id) lines)
+line_said lines id n ids r e f g = e ∙ rw (f, g) (ap (option_map (λ k. k + 2)) (position_of_id id lines))
 
 -- a line that stands among these is found by its id
 found : (p : Line → Bool) (n : ℕ) (xs : List Line) → list_any p xs ≡ true → IsSome (position_from p n xs)

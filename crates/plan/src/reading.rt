@@ -16,7 +16,7 @@ use activity::Header;
 use charge::out_of_reach;
 use line::fields::formed;
 use line::first_line::read_header;
-use order::{Lines, line_of, ordered};
+use order::{Lines, ids_of, line_of, ordered};
 use rules::{Fault, Refusal};
 use text::field::find;
 use text::word::PLAN;
@@ -49,7 +49,8 @@ fn judge<'a>(file: &File<'a>, lines: Lines) -> Result<Plan<'a>, Refusal>
 {
     let by_place = ordered(&lines);
     if let Some(misplaced) = first_misplaced(file, by_place.as_slice()) {
-        let line = line_of(&lines, u32::from(misplaced.id)).unwrap();
+        let ids = ids_of(&lines);
+        let line = line_of(ids.as_slice(), u32::from(misplaced.id)).unwrap();
         return Err(Refusal {
             fault: Fault::Misplaced,
             line,

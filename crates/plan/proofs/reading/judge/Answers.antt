@@ -10,7 +10,7 @@ use Rattle.plan.specs.Said.{said_by, LineIn, plan_of, in_order}
 use Rattle.plan.specs.View.{plan_view}
 use Rattle.plan.specs.Reading.{reading_view}
 use Rattle.plan.proofs.Accepted.{accepted_placeable}
-use Rattle.plan.proofs.Ids.{line_is, line_found}
+use Rattle.plan.proofs.Ids.{line_is, line_said, line_found}
 use Rattle.plan.proofs.Ordering.{order_in}
 use Rattle.plan.proofs.Judging.{refused_view, judged_7, judged_9, judged_on}
 use Rattle.plan.proofs.reading.judge.Goals as goal
@@ -19,8 +19,14 @@ use Rattle.plan.proofs.reading.judge.Goals.{In_default}
 pub first_misplaced-requires : goal.first_misplaced-requires
 first_misplaced-requires c = rw (c.as_slice.ensures.value, c.ordered-by_place.ensures.value) (order_in (header_view c.args.file.now.header) c.args.file.now.bytes.now c.args.lines c.requires.said)
 
+-- the ids are as many as lines are
+pub line_of-requires : goal.line_of-requires
+line_of-requires c = rw c.as_slice-in-Some.ensures.value c.as_slice-in-Some.ensures.within
+
 pub unwrap-line-requires : goal.unwrap-line-requires
-unwrap-line-requires c = rw (c.line_of.ensures, c.from.ensures) (line_found c.args.lines c.ordered-by_place.result c.in-Some.misplaced c.ordered-by_place.ensures.same_lines (rw c.as_slice.ensures.value at c.in-Some.ensures.among))
+unwrap-line-requires c =
+    let e = line_said c.args.lines c.in-Some.misplaced.id c.from.result c.as_slice-in-Some.result.now c.line_of.result c.line_of.ensures (c.as_slice-in-Some.ensures.value ∙ c.ids_of-ids.ensures) c.from.ensures in
+    rw e (line_found c.args.lines c.ordered-by_place.result c.in-Some.misplaced c.ordered-by_place.ensures.same_lines (rw c.as_slice.ensures.value at c.in-Some.ensures.among))
 
 pub returns-in-Some-clause-value : goal.returns-in-Some-clause-value
 returns-in-Some-clause-value c =
@@ -29,8 +35,9 @@ returns-in-Some-clause-value c =
     let s = a.file.now.bytes.now in
     let x = c.in-Some.misplaced in
     let m = rw (c.as_slice.ensures.value, c.ordered-by_place.ensures.value) at c.in-Some.ensures.value in
+    let e = line_said a.lines x.id c.from.result c.as_slice-in-Some.result.now c.line_of.result c.line_of.ensures (c.as_slice-in-Some.ensures.value ∙ c.ids_of-ids.ensures) c.from.ensures in
     let l = All-contains (LineIn h s) (order_lines a.lines) x (order_in h s a.lines c.requires.said) (rw (c.as_slice.ensures.value, c.ordered-by_place.ensures.value) at c.in-Some.ensures.among) in
-    refused_view _ ∙ sym (c.requires.read ∙ judged_7 h s a.lines c.requires.said x m ∙ ap (no 7) (line_is h s a.lines c.requires.said (said_by h s x).id ∙ rw (← l.id_is) (ap (λ o. unwrap_or o 0) (rw c.from.ensures at (sym c.line_of.ensures ∙ c.unwrap-line.ensures)))))
+    refused_view _ ∙ sym (c.requires.read ∙ judged_7 h s a.lines c.requires.said x m ∙ ap (no 7) (line_is h s a.lines c.requires.said (said_by h s x).id ∙ rw (← l.id_is) (ap (λ o. unwrap_or o 0) (sym e ∙ c.unwrap-line.ensures))))
 
 -- no place is misplaced
 none_misplaced : (c : In_default) → misplaced [] (map (said_by (header_view c.args.file.now.header) c.args.file.now.bytes.now) (order_lines c.args.lines)) ≡ none
