@@ -28,7 +28,7 @@ use Rattle.plan.specs.Reached.{lines_from, lines_view, first_from}
 use Rattle.plan.proofs.Ordering.{view_order}
 use Rattle.plan.proofs.Cutting.{line_with, lines_next, lines_last, not_ended, line_fields}
 use Rattle.plan.proofs.LineAt.{of_value}
-use Rattle.plan.proofs.Lining.{form_is, form_not}
+use Rattle.plan.proofs.Lining.{form_with, form_not}
 
 -- what a refusal is as a reading
 pub refused_view : (q : Refusal) → reading_view (Err q) ≡ no (number_of q.fault) q.line
@@ -63,7 +63,7 @@ unfolding reading in_order
 read_1 s h = rw (lt-ltb _ _ h)
 
 module _ (s : List ℕ) (h : length s ≤ 60000) where
-  read_on : in_order (reading s) ≡ in_order (after_lines (plan_lines (lines s)))
+  pub read_on : in_order (reading s) ≡ in_order (after_lines (plan_lines (lines s)))
   unfolding reading
   read_on = rw (le-ltb _ _ h)
 
@@ -98,7 +98,7 @@ module _ (s : List ℕ) (h : length s ≤ 60000) where
       here = let z : end - 0 ≡ end = omega arith in rw z at (lines_next s 0 end lf i)
 
       form_here : formed (bytes "plan") 12 (line_with (take end s)) ≡ is_formed (bytes "plan") 12 (take end s)
-      form_here = form_is (bytes "plan") 12 (take end s)
+      form_here = form_with (bytes "plan") 12 (take end s)
 
       pub first_2 : is_formed (bytes "plan") 12 (take end s) ≡ false → in_order (reading s) ≡ no 2 1
       first_2 f = short _ _ here (form_here ∙ f)
@@ -121,7 +121,7 @@ module _ (s : List ℕ) (h : length s ≤ 60000) where
 pub first_formed : (w : List ℕ) → is_formed (bytes "plan") 12 w ≡ true → (r : Result HeaderStruct Fault) → read_as header_view r ≡ header_of (split_on 9 w) → IfOk r (λ h. HeaderFormed (header_view h))
 unfolding read_as
 first_formed w f (Ok h) e =
-    let l = formed_facts (bytes "plan") 12 (line_with w) (form_is (bytes "plan") 12 w ∙ f) in
+    let l = formed_facts (bytes "plan") 12 (line_with w) (form_with (bytes "plan") 12 w ∙ f) in
     let r : HeaderSaid (line_with w) (header_view h) = of_value (header_says (line_with w) l) (rw (line_fields w) (sym e)) in
     r.formed
 first_formed w f (Err x) e = tt

@@ -9,3 +9,4 @@ pub mod Judging
 pub mod Accepted
 pub mod Places
 pub mod Same
+pub mod Column

@@ -26,10 +26,14 @@ use Rattle.plan.proofs.Cutting.{line_with, lines_end, lines_next, lines_last, no
 use Rattle.plan.proofs.LineAt.{line_to, of_value}
 use Rattle.order.specs.declared.Line.{Line}
 
--- a line's form, by what stands before its LF
-pub form_is : (word : List ℕ) (count : ℕ) (w : List ℕ) → formed word count (line_with w) ≡ is_formed word count w
+-- a line's form, by its fields
+pub form_is : (word : List ℕ) (count : ℕ) (line l : List ℕ) → ended line ≡ true → fields line ≡ split_on 9 l → formed word count line ≡ is_formed word count l
 unfolding formed is_formed
-form_is word count w = rw (line_ended w, line_fields w)
+form_is word count line l e f = rw (e, f)
+
+-- by what stands before its LF
+pub form_with : (word : List ℕ) (count : ℕ) (w : List ℕ) → formed word count (line_with w) ≡ is_formed word count w
+form_with word count w = form_is word count (line_with w) w (line_ended w) (line_fields w)
 
 -- a line that lacks its LF
 pub form_not : (word : List ℕ) (count : ℕ) (line : List ℕ) → ended line ≡ false → formed word count line ≡ false
@@ -40,32 +44,32 @@ form_not word count line e = rw e
 pub narrow : (h : Header) (w : List ℕ) (v : ActivityStruct) → is_formed (bytes "act") 15 w ≡ true → activity_of h (split_on 9 w) ≡ value (activity_view v) → (v.id ≤ 65535) × (v.priority ≤ 65535)
 unfolding activity_view
 narrow h w v f e =
-    let l = formed_facts (bytes "act") 15 (line_with w) (form_is (bytes "act") 15 w ∙ f) in
+    let l = formed_facts (bytes "act") 15 (line_with w) (form_with (bytes "act") 15 w ∙ f) in
     let r : ActivitySaid h (line_with w) (activity_view v) = of_value (activity_says h (line_with w) l) (rw (line_fields w) e) in
     (r.formed.id, r.formed.priority)
 
 -- one more line
 module _ (h : Header) (earlier : List Activity) (n : ℕ) (line : List ℕ) (rest : List (List ℕ)) where
-  line_2 : formed (bytes "act") 15 line ≡ false → activity_lines h earlier n (line ∷ rest) ≡ no 2 n
+  pub line_2 : formed (bytes "act") 15 line ≡ false → activity_lines h earlier n (line ∷ rest) ≡ no 2 n
   unfolding activity_lines
   line_2 e = rw e
 
   module _ (e : formed (bytes "act") 15 line ≡ true) where
-    line_5 : 64 ≤ length earlier → activity_lines h earlier n (line ∷ rest) ≡ no 5 n
+    pub line_5 : 64 ≤ length earlier → activity_lines h earlier n (line ∷ rest) ≡ no 5 n
     unfolding activity_lines
     line_5 k = rw (e, le-leb _ _ k)
 
     module _ (k : length earlier < 64) where
-      line_fault : (x : ℕ) → activity_of h (fields line) ≡ fault x → activity_lines h earlier n (line ∷ rest) ≡ no x n
+      pub line_fault : (x : ℕ) → activity_of h (fields line) ≡ fault x → activity_lines h earlier n (line ∷ rest) ≡ no x n
       unfolding activity_lines on_line
       line_fault x f = rw (e, lt-leb _ _ k, f)
 
       module _ (a : Activity) (f : activity_of h (fields line) ≡ value a) where
-        line_6 : has_id a.id earlier ≡ true → activity_lines h earlier n (line ∷ rest) ≡ no 6 n
+        pub line_6 : has_id a.id earlier ≡ true → activity_lines h earlier n (line ∷ rest) ≡ no 6 n
         unfolding activity_lines on_line
         line_6 g = rw (e, lt-leb _ _ k, f, g)
 
-        line_on : has_id a.id earlier ≡ false → activity_lines h earlier n (line ∷ rest) ≡ activity_lines h (earlier ++ (a ∷ [])) (suc n) rest
+        pub line_on : has_id a.id earlier ≡ false → activity_lines h earlier n (line ∷ rest) ≡ activity_lines h (earlier ++ (a ∷ [])) (suc n) rest
         unfolding activity_lines on_line
         line_on g = rw (e, lt-leb _ _ k, f, g)
 
@@ -81,7 +85,7 @@ module _ (h : Header) (s : List ℕ) (read : List Line) (at end : ℕ) (e : end 
     here = rw (lines_next s at end e i, line_to s at end e)
 
     form_here : formed (bytes "act") 15 (line_with (line_at s at)) ≡ is_formed (bytes "act") 15 (line_at s at)
-    form_here = form_is (bytes "act") 15 (line_at s at)
+    form_here = form_with (bytes "act") 15 (line_at s at)
 
     few_here : length (map (said_by h s) read) ≡ length read
     few_here = length-map read (said_by h s)

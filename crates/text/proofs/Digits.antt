@@ -4,7 +4,7 @@ use mathlib.Core.Path.{◌≡◌, refl}
 use mathlib.Core.Bool.{Bool, true, false, cond, and-false}
 use mathlib.Core.List.{List}
 use Prim.Native.Nat.{ℕ, ◌+◌, ◌-◌, ◌*◌, ◌^◌, ◌≤◌, ◌<◌}
-use native.Mathlib.Nat.{pow-suc}
+use native.Mathlib.Nat.{pow-suc, pow-le-pow_right, lt_of_lt_of_le}
 use native.Mathlib.Numerals.{add-one}
 use native.Mathlib.Omega.{arith}
 use Rattle.std.proofs.lemmas.Bool.Decides.{nat_tests}
@@ -36,6 +36,9 @@ digit_small b e = grind (arith, nat_tests)
 
 pub ten_more : (v d i : ℕ) → v < 10 ^ i → d ≤ 9 → v * 10 + d < 10 ^ (i + 1)
 ten_more v d i h k = rw (add-one, pow-suc) (omega arith)
+
+pub ten_below : (v i : ℕ) → v < 10 ^ i → i ≤ 10 → v < 10000000000
+ten_below v i h k = lt_of_lt_of_le h (pow-le-pow_right (omega arith) k)
 
 -- which texts are numbers
 pub number_short : (s : List ℕ) → length s ≡ 0 → number_of s ≡ None
