@@ -41,13 +41,26 @@ fn mark(
     let duration = candidate.duration;
     match c {
         0 => direct::windows::mark_windows(candidate.windows.as_slice(), count, by, table),
-        1 => direct::after::mark_after(placed, candidate.after.as_slice(), count, by, table),
+        1 => direct::after::mark_after(
+            placed.entries(),
+            candidate.after.as_slice(),
+            count,
+            by,
+            table,
+        ),
         2 => load::mark_units(placed, duration, count, by, table),
         3 => state::mark_state(placed, duration, count, by, table),
         4 => load::mark_engines(placed, duration, header.engines, count, by, table),
         5 => load::mark_peaks(placed, duration, header.peak, count, by, table),
         6 => trial::mark_charge(header, placed, duration, candidate.warm, count, by, table),
-        7 => direct::volume::mark_volume(placed, header.volume, count, by, table),
+        7 => direct::volume::mark_volume(
+            placed.candidate(),
+            placed.entries(),
+            header.volume,
+            count,
+            by,
+            table,
+        ),
         8 => direct::warmup::mark_warmup(header.minute, candidate.warm, count, by, table),
         _ => {}
     }

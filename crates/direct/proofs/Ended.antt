@@ -4,8 +4,8 @@ use Prim.Native.Nat.{ℕ, zero, suc, ◌+◌, ◌<◌, ◌≤◌, min, max}
 use mathlib.Core.Path.{◌≡◌, refl, sym, ◌∙◌, ap}
 use mathlib.Core.Bool.{Bool, true, false, cond, ◌&&◌, ◌||◌}
 use mathlib.Core.List.{List, [], ◌∷◌, ◌++◌, map}
-use Rattle.std.proofs.Common.{Option, None, Some, filter, append-nil}
-use Rattle.std.proofs.lemmas.List.{take_more, get_or-map, map-append}
+use Rattle.std.proofs.Common.{Option, None, Some, filter, append-nil, get_or-take}
+use Rattle.std.proofs.lemmas.List.{take_more, take_all, get_or-map, map-append}
 use Rattle.std.proofs.lemmas.List.Sums.{fold-append}
 use Rattle.std.specs.List.{reduce}
 use Rattle.std.proofs.lemmas.List.Elements.{filter-append}
@@ -118,8 +118,28 @@ first_is rows id (suc n) l = rw (← add-one n, take_more rows n no_row l, ends_
 abbrev pub no_item : Item
 no_item = record { first = 0; second = 0; third = 0 }
 
-pub ready_by : (rows entries : List Row) (n : ℕ) (after : List Item) (i : ℕ) (end : Option ℕ) → entries ≡ take n rows → n ≤ length rows → i < length after → end ≡ reduce min (ends (get_or after i no_item).first entries) → IsReady (first_end rows (get_or (map number_of after) i 0) n) end
-ready_by rows entries n after i end e l k f = rw (f, e, get_or-map number_of after i no_item 0 k) (first_is rows (get_or after i no_item).first n l)
+pub ready_by : (entries : List Row) (after : List Item) (i : ℕ) (end : Option ℕ) → i < length after → end ≡ reduce min (ends (get_or after i no_item).first entries) → IsReady (first_end entries (get_or (map number_of after) i 0) (length entries)) end
+ready_by entries after i end k f =
+    let all : take (length entries) entries ≡ entries = take_all (length entries) entries (omega arith) in
+    rw (f, get_or-map number_of after i no_item 0 k) (rw all at (first_is entries (get_or after i no_item).first (length entries) (omega arith)))
+
+-- ---- the first rows as a list of their own
+first_taken : (rows entries : List Row) (n : ℕ) → entries ≡ take n rows → (id k : ℕ) → k ≤ n → first_end entries id k ≡ first_end rows id k
+unfolding first_end
+first_taken rows entries n e id zero l = refl
+first_taken rows entries n e id (suc k) l =
+    let row : row_in entries k ≡ row_in rows k = ap (λ (xs : List Row). row_in xs k) e ∙ get_or-take n rows k no_row l in
+    ap (λ (x : Row). min (cond (eqb x.id id) x.end never) (first_end entries id k)) row
+    ∙ ap (min (cond (eqb (id_at rows k) id) (end_at rows k) never)) (first_taken rows entries n e id k (omega arith))
+
+ready_taken : (rows entries : List Row) (n : ℕ) → entries ≡ take n rows → (ids : List ℕ) (count : ℕ) → ready_from entries n ids count ≡ ready_from rows n ids count
+unfolding ready_from
+ready_taken rows entries n e ids zero = refl
+ready_taken rows entries n e ids (suc count) =
+    ap (λ (t : ℕ). max t (ready_from entries n ids count)) (first_taken rows entries n e (get_or ids count 0) n (omega arith)) ∙ ap (max (first_end rows (get_or ids count 0) n)) (ready_taken rows entries n e ids count)
+
+pub ready_first : (rows entries : List Row) (n : ℕ) → entries ≡ take n rows → length entries ≡ n → (ids : List ℕ) (count : ℕ) → ready_from entries (length entries) ids count ≡ ready_from rows n ids count
+ready_first rows entries n e l ids count = ap (λ (m : ℕ). ready_from entries m ids count) l ∙ ready_taken rows entries n e ids count
 
 -- one that is late beside every start
 pub leb_never : (r t s : ℕ) → min r never ≡ min t never → s < never → leb r s ≡ leb t s

@@ -6,7 +6,7 @@ ghost use Rattle.sets.specs.Table.{Marked, Markable};
 ghost use Rattle.direct.specs.Ended.{ready_from, IsReady};
 
 use items::Item;
-use placed::{Placed, Row};
+use placed::Row;
 use sets::table::mark_where;
 
 // The earliest end of the entries of this id.
@@ -21,22 +21,22 @@ fn first_end(entries: &[Row], id: u32) -> Option<u16>
 }
 
 // The first start at which each activity in `after` is placed and has ended, none where one is not placed.
-fn ready_from(placed: &Placed, after: &[Item]) -> Option<u16>
-    ensures { IsReady (ready_from placed.now.rows placed.now.count (map number_of after.now) (length after.now)) result }
+fn ready_from(entries: &[Row], after: &[Item]) -> Option<u16>
+    ensures { IsReady (ready_from entries.now (length entries.now) (map number_of after.now) (length after.now)) result }
 {
     let mut ready = 0;
     for id in after {
-        ready = first_end(placed.entries(), id.first)?.max(ready);
+        ready = first_end(entries, id.first)?.max(ready);
     }
     Some(ready)
 }
 
-// Marks the starts that meet D.
-pub fn mark_after(placed: &Placed, after: &[Item], count: u32, by: u16, table: &mut [u16])
+// Marks the starts that meet D, beside entries of any ticks.
+pub fn mark_after(entries: &[Row], after: &[Item], count: u32, by: u16, table: &mut [u16])
     requires { Markable by count table.old }
-    ensures { Marked (leb (ready_from placed.now.rows placed.now.count (map number_of after.now) (length after.now))) by count table.old table.new }
+    ensures { Marked (leb (ready_from entries.now (length entries.now) (map number_of after.now) (length after.now))) by count table.old table.new }
 {
-    if let Some(ready) = ready_from(placed, after) {
+    if let Some(ready) = ready_from(entries, after) {
         mark_where(|s| u32::from(ready) <= s, count, by, table);
     }
 }

@@ -1,17 +1,24 @@
 // V: the volumes of the placed and the candidate, at every start or at none.
-ghost use Rattle.std.specs.Prelude.{◌+◌, ◌<◌, leb};
+ghost use Rattle.std.specs.Prelude.{◌+◌, ◌≤◌, leb, length};
 ghost use Rattle.sets.specs.Table.{Marked, Markable};
-ghost use Rattle.placed.specs.Tables.{volume_at, volumes_in};
+ghost use Rattle.placed.specs.Tables.{volumes_in};
 
-use placed::Placed;
+use placed::{Row, total_volume};
 use sets::table::mark_where;
 
-// Marks the starts that meet V.
-pub fn mark_volume(placed: &Placed, limit: u32, count: u32, by: u16, table: &mut [u16])
-    requires { (placed.now.count < 64) × Markable by count table.old }
-    ensures { Marked (λ _. leb (volume_at placed.now.rows placed.now.count + volumes_in placed.now.rows placed.now.count) limit) by count table.old table.new }
+// Marks the starts that meet V, beside entries of any ticks.
+pub fn mark_volume(
+    candidate: &Row,
+    entries: &[Row],
+    limit: u32,
+    count: u32,
+    by: u16,
+    table: &mut [u16],
+)
+    requires { (length entries.now ≤ 64) × Markable by count table.old }
+    ensures { Marked (λ _. leb (candidate.now.volume + volumes_in entries.now (length entries.now)) limit) by count table.old table.new }
 {
-    let volume = u64::from(placed.candidate().volume) + placed.total_volume();
+    let volume = u64::from(candidate.volume) + total_volume(entries);
     let fits = volume <= u64::from(limit);
     mark_where(|_| fits, count, by, table);
 }

@@ -6,8 +6,8 @@ use mathlib.Core.List.{List, [], ◌∷◌, Memᴰ}
 use native.Mathlib.Omega.{arith}
 use native.Mathlib.Nat.{not-suc-le-zero}
 use native.Mathlib.Numerals.{add-one}
-use Rattle.std.proofs.Common.{get_or, get_or-take}
-use Rattle.std.proofs.lemmas.List.{get_or_default}
+use Rattle.std.proofs.Common.{get_or, get_or-take, length-take}
+use Rattle.std.proofs.lemmas.List.{get_or_default, take_all}
 use Rattle.std.specs.Prelude.{sum_by}
 use Rattle.std.proofs.lemmas.List.Sums.{sum_by_more}
 use lib.ListN.{length, take}
@@ -69,6 +69,14 @@ pub volumes_taken : (rows : List Row) (n : ℕ) → n ≤ length rows → volume
 unfolding volumes_in
 volumes_taken rows zero l = refl
 volumes_taken rows (suc n) l = omega (arith, volumes_taken rows n (omega arith), simp add-one at (sum_by_more (λ (row : Row). row.volume) rows n no_row l))
+
+-- of all rows, and of the first n as a list of their own
+pub volumes_summed : (rows : List Row) → volumes_in rows (length rows) ≡ sum_by (λ (row : Row). row.volume) rows
+volumes_summed rows = volumes_taken rows (length rows) (omega arith) ∙ ap (sum_by (λ (row : Row). row.volume)) (take_all (length rows) rows (omega arith))
+
+pub volumes_first : (rows xs : List Row) (n : ℕ) → xs ≡ take n rows → length xs ≡ n → volumes_in xs (length xs) ≡ volumes_in rows n
+volumes_first rows xs n e l =
+    volumes_summed xs ∙ ap (sum_by (λ (row : Row). row.volume)) e ∙ sym (volumes_taken rows n (omega (arith, ap length e, length-take n rows, l)))
 
 -- the sum over the rows is that over the schedule
 pub volumes_are : (rows : List Row) (n : ℕ) (placed : Schedule) → Rows (λ i e. AmountsAt rows i e.activity) n placed → volumes_in rows n ≡ total_volume placed

@@ -11,5 +11,5 @@ pub const NEVER: u16 = 4097;
 
 pub use need::Need;
 pub use row::Row;
-pub use table::Placed;
+pub use table::{Placed, total_volume};
 pub use ticks::{heater_from, raise_ticks};

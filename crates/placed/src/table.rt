@@ -6,7 +6,7 @@ ghost use Rattle.activity.specs.View.{header_view, activity_view};
 ghost use Rattle.placed.specs.Tables.{row_in, volumes_in};
 ghost use Rattle.placed.specs.Bounds.{TicksBounded};
 ghost use Rattle.placed.specs.Held.{TicksAt, CandidateAt};
-ghost use Rattle.placed.specs.Written.{SameBelow};
+ghost use Rattle.placed.specs.Written.{SameBelow, SameBut, SameTicks, SameAmounts};
 
 use crate::row::{Row, row_of};
 use crate::ticks::heater_from;
@@ -30,6 +30,15 @@ fn volume_of(rows: &[Row]) -> u64
     ensures bound { result ≤ 274877906944 }
 {
     rows.iter().map(|row| u64::from(row.volume)).sum()
+}
+
+// The same in the definitions' words, of rows of any ticks.
+#[tactic(auto, using(crate::proofs::Rows::volumes_summed))]
+pub fn total_volume(rows: &[Row]) -> u64
+    requires { length rows.now ≤ 64 }
+    ensures { (result ≡ volumes_in rows.now (length rows.now)) × (result ≤ 274877906944) }
+{
+    volume_of(rows)
 }
 
 impl Placed {
@@ -59,15 +68,30 @@ impl Placed {
         &self.rows[self.count]
     }
 
-    // Writes the candidate's row: what an activity is wherever it starts.
+    // Writes the candidate's row: what an activity is wherever it starts. Its ticks remain.
     pub fn put_candidate(&mut self, activity: &Activity)
         requires room { self.old.count < 64 }
         requires settings_formed { SettingsFormed (activity_view activity.now).needs × SettingsFormed (activity_view activity.now).sets }
         ensures counted { self.new.count ≡ self.old.count }
         ensures candidate_at { CandidateAt self.new.rows self.new.count (activity_view activity.now) }
         ensures same_below { SameBelow self.old.count self.old.rows self.new.rows }
+        ensures same_but { SameBut self.old.count self.old.rows self.new.rows }
+        ensures same_ticks { SameTicks (row_in self.old.rows self.old.count) (row_in self.new.rows self.old.count) }
     {
-        self.rows[self.count] = row_of(activity);
+        let Row {
+            id,
+            heat,
+            start,
+            end,
+            ..
+        } = *self.candidate();
+        self.rows[self.count] = Row {
+            id,
+            heat,
+            start,
+            end,
+            ..row_of(activity)
+        };
     }
 
     // Places the candidate at this start: its row gets its ticks, and is counted in.
@@ -78,6 +102,8 @@ impl Placed {
         ensures ticks_at { TicksAt (header_view header) self.new.rows self.old.count (at (activity_view activity.now) start) }
         ensures candidate_at { (a : _) → CandidateAt self.old.rows self.old.count a → CandidateAt self.new.rows self.old.count a }
         ensures same_below { SameBelow self.old.count self.old.rows self.new.rows }
+        ensures same_but { SameBut self.old.count self.old.rows self.new.rows }
+        ensures same_amounts { SameAmounts (row_in self.old.rows self.old.count) (row_in self.new.rows self.old.count) }
     {
         let heat = heater_from(header.minute, start, activity.warm);
         self.rows[self.count] = Row {
@@ -91,10 +117,10 @@ impl Placed {
     }
 
     // The volumes of what is placed, summed.
-    #[tactic(auto, using(crate::proofs::Rows::volumes_taken))]
+    #[tactic(auto, using(crate::proofs::Rows::volumes_first))]
     pub fn total_volume(&self) -> u64
         ensures { (result ≡ volumes_in self.now.rows self.now.count) × (result ≤ 274877906944) }
     {
-        volume_of(self.entries())
+        total_volume(self.entries())
     }
 }

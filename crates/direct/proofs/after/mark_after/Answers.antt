@@ -7,6 +7,6 @@ use Rattle.direct.proofs.after.mark_after.Goals as goal
 
 pub returns-in-Some : goal.returns-in-Some
 returns-in-Some c =
-    c.mark_where.ensures (leb (ready_from c.args.placed.now.rows c.args.placed.now.count (map number_of c.args.after.now) (length c.args.after.now)))
+    c.mark_where.ensures (leb (ready_from c.args.entries.now (length c.args.entries.now) (map number_of c.args.after.now) (length c.args.after.now)))
     (λ s met k q. let own : met ≡ leb c.in-Some.ready s = search rules in
     own ∙ leb_never _ _ s c.in-Some.ensures (omega (arith, c.requires.few)))
