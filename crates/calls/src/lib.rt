@@ -6,6 +6,7 @@ ghost use Rattle.plan.specs.View.{plan_view};
 ghost use Rattle.calls.specs.Called.{OutcomeCalled, SliceFilled, ReportCalled, ColumnsFilled, StartsCalled, OutputCalled};
 
 use plan::Plan;
+pub use report::lines::REPORT;
 use report::lines::Report;
 use report::whole::{no_line_of, report_of};
 use rules::{ALL_CONDITIONS, Fault, Outcome, Refusal, TICKS};

@@ -11,13 +11,35 @@ use Rattle.std.proofs.lemmas.List.{take_all}
 use Rattle.std.proofs.Common.{get_or-drop}
 use borrow.Author.Tests.{ltb-false}
 use Rattle.std.specs.Prelude.{Option, Some, None, position}
+use Rattle.std.specs.Bool.{beq}
 use Rattle.std.specs.List.{prefix_len, position_or_len}
 use Rattle.std.proofs.lemmas.List.Sums.{prefix_len_passes, prefix_len_stops, prefix_len-le-length, prefix_len-drop_yes}
 use Rattle.std.proofs.lemmas.List.Quantifiers.{position-Some}
 use Rattle.rules.specs.Runs.{runs_from}
 use Rattle.sets.specs.Sets.{holds_set}
-use Rattle.schedule.specs.Search.{meets_in, runs_on, FirstRun}
+use Rattle.schedule.specs.Search.{meets_in, runs_on, FirstRun, Next}
 use Rattle.schedule.proofs.RunSteps.{run, joined, step_skip, step_new}
+
+-- ---- two truths that are one, or not
+pub agree : (b c : Bool) → beq b c ≡ true → b ≡ c
+agree true true e = refl
+agree true false e = sym e
+agree false true e = e
+agree false false e = refl
+
+pub otherwise : (b c : Bool) → beq b c ≡ false → b ≡ not c
+otherwise true true e = e
+otherwise true false e = refl
+otherwise false true e = refl
+otherwise false false e = sym e
+
+not_true : {b : Bool} → not b ≡ true → b ≡ false
+not_true {b = true} q = sym q
+not_true {b = false} q = refl
+
+not_false : {b : Bool} → not b ≡ false → b ≡ true
+not_false {b = true} q = refl
+not_false {b = false} q = sym q
 
 module _ (pass : ℕ → Bool) (count : ℕ) where
   -- all of them
@@ -98,11 +120,7 @@ module _ (sets : List ℕ) (m from : ℕ) (l : from ≤ length sets) where
 
   -- by what the search among the sets from `from` on finds
   pub next_none : position holds rest ≡ None → runs_on (meets_in sets m) (length sets) from ≡ []
-  next_none e = none_on (meets_in sets m) (length sets) from l (λ i a b. sym (at_rest i a) ∙ unset (prefix_len_passes (λ x. not (holds x)) rest (i - from) 0 (omega (arith, none_found holds rest e, length-drop from sets))))
-    where
-      unset : {b : Bool} → not b ≡ true → b ≡ false
-      unset {b = true} q = sym q
-      unset {b = false} q = refl
+  next_none e = none_on (meets_in sets m) (length sets) from l (λ i a b. sym (at_rest i a) ∙ not_true (prefix_len_passes (λ x. not (holds x)) rest (i - from) 0 (omega (arith, none_found holds rest e, length-drop from sets))))
 
   pub next_some : (k n : ℕ) → position holds rest ≡ Some k → n ≡ prefix_len holds (drop k rest)
       → (0 < n) × (from + k + n ≤ length sets) × FirstRun (meets_in sets m) (length sets) from (run (from + k) (from + k + n - 1))
@@ -121,4 +139,19 @@ module _ (sets : List ℕ) (m from : ℕ) (l : from ≤ length sets) where
             (λ i a b. sym (at_rest i a) ∙ found.2 (i - from) (omega arith))
             (λ i a b. sym (at_run k i a) ∙ prefix_len_passes holds (drop k rest) (i - (from + k)) 0 (omega arith))
             (λ z. rw end (sym (at_run k (from + k + n) (omega arith)) ∙ rw (behind, f) (prefix_len_stops holds (drop k rest) 0 (omega (arith, length-drop k rest, length-drop from sets)))))),
+      )
+
+  -- the next start whose test is `met`
+  pub next_at : (met : Bool) (n : ℕ) → n ≡ prefix_len (λ e. not (beq (holds e) met)) rest → (from + n ≤ length sets) × Next (meets_in sets m) met from (length sets) (from + n)
+  next_at met n e =
+      let other : ℕ → Bool = λ x. not (beq (holds x) met) in
+      let room : from + n ≤ length sets = omega (arith, e, prefix_len-le-length other rest, length-drop from sets) in
+      let behind : from + n - from ≡ n = omega arith in (
+        room,
+        record {
+          least = omega arith;
+          most = room;
+          before = λ s a b. sym (at_rest s a) ∙ otherwise _ met (not_true (prefix_len_passes other rest (s - from) 0 (omega (arith, e))));
+          here = λ z. sym (at_rest (from + n) (omega arith)) ∙ rw (behind, e) (agree _ met (not_false (prefix_len_stops other rest 0 (omega (arith, e, length-drop from sets)))));
+        },
       )

@@ -1,6 +1,6 @@
 -- The runs of starts, one start earlier.
 -- Assumes nothing.
-use Prim.Native.Nat.{ℕ, zero, suc, ◌<◌, ◌≤◌}
+use Prim.Native.Nat.{ℕ, zero, suc, ◌-◌, ◌<◌, ◌≤◌}
 use mathlib.Core.Path.{◌≡◌, refl}
 use mathlib.Core.Bool.{Bool, true, false, cond}
 use mathlib.Core.List.{List, [], ◌∷◌}
@@ -53,6 +53,15 @@ one_more s (r ∷ rs) = go (eqb r.first (suc s))
     go true = omega arith
     go false = omega arith
 
+no_fewer : (s : ℕ) (rs : List Interval) → length rs ≤ length (with_start s rs)
+unfolding with_start
+no_fewer s [] = omega arith
+no_fewer s (r ∷ rs) = go (eqb r.first (suc s))
+  where
+    go : (b : Bool) → suc (length rs) ≤ length (cond b (run s r.last ∷ rs) (run s s ∷ r ∷ rs))
+    go true = omega arith
+    go false = omega arith
+
 module _ (pass : ℕ → Bool) where
   -- no more runs than starts
   pub few_runs : (s n : ℕ) → length (runs_from pass s n) ≤ n
@@ -63,6 +72,19 @@ module _ (pass : ℕ → Bool) where
       go : (b : Bool) → length (runs_from pass (suc s) n) ≤ n → length (cond b (with_start s (runs_from pass (suc s) n)) (runs_from pass (suc s) n)) ≤ suc n
       go true h = omega (arith, one_more s (runs_from pass (suc s) n))
       go false h = omega arith
+
+  count_step : (s k : ℕ) → length (runs_from pass (suc s) k) ≤ length (runs_from pass s (suc k))
+  unfolding runs_from
+  count_step s k = go (pass s)
+    where
+      go : (b : Bool) → length (runs_from pass (suc s) k) ≤ length (cond b (with_start s (runs_from pass (suc s) k)) (runs_from pass (suc s) k))
+      go true = no_fewer s (runs_from pass (suc s) k)
+      go false = omega arith
+
+  -- fewer starts have no more runs
+  pub count_most : (n s : ℕ) → s ≤ n → length (runs_from pass s (n - s)) ≤ length (runs_from pass 0 n)
+  count_most n zero h = let all : n - 0 ≡ n = omega arith in rw all (omega arith)
+  count_most n (suc s) h = let left : n - s ≡ suc (n - suc s) = omega arith in omega (arith, rw (← left) at (count_step s (n - suc s)), count_most n s (omega arith))
 
   from : (s k : ℕ) → From s (runs_from pass s k)
   unfolding runs_from

@@ -1,5 +1,5 @@
 -- What is searched for in a table of sets, one for each start.
-use Rattle.std.specs.Prelude.{ℕ, ◌+◌, ◌-◌, ◌<◌, ◌≤◌, ◌≡◌, Bool, List, [], ◌∷◌, get_or, Option, Some, None}
+use Rattle.std.specs.Prelude.{ℕ, ◌+◌, ◌-◌, ◌<◌, ◌≤◌, ◌≡◌, Bool, not, List, [], ◌∷◌, get_or, Option, Some, None}
 use Rattle.sets.specs.Sets.{holds_set}
 use Rattle.rules.specs.Conditions.{has}
 use Rattle.rules.specs.Runs.{runs_from}
@@ -28,3 +28,14 @@ pub record FirstRun (pass : ℕ → Bool) (n from : ℕ) (r : Interval) : Type 0
 abbrev pub NextRun : (ℕ → Bool) → ℕ → ℕ → Option Interval → Type 0
 NextRun pass n from None = runs_on pass n from ≡ []
 NextRun pass n from (Some r) = FirstRun pass n from r
+
+-- r is the first of the starts from `from` to before `count` whose test is `met`, or `count`
+pub record Next (pass : ℕ → Bool) (met : Bool) (from count r : ℕ) : Type 0 where
+  pub least : from ≤ r
+  pub most : r ≤ count
+  pub before : (s : ℕ) → from ≤ s → s < r → pass s ≡ not met
+  pub here : r < count → pass r ≡ met
+
+-- what `gives` says of a run and a number of it is what `taken` takes of the run
+abbrev pub Takes : (Interval → ℕ → Type 0) → (Interval → ℕ) → Type 0
+Takes gives taken = (r : Interval) (x : ℕ) → gives r x → x ≡ taken r

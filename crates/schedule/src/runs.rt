@@ -1,11 +1,13 @@
 // The runs of starts that meet a set of conditions, from the first to the last.
-ghost use Rattle.std.specs.Prelude.{◌≡◌, map, ◌≤◌, length, position};
+ghost use Rattle.std.specs.Prelude.{◌≡◌, ℕ, not, map, ◌≤◌, length, position};
+ghost use Rattle.std.specs.Bool.{beq};
 ghost use Rattle.std.specs.List.{prefix_len};
 ghost use Rattle.std.specs.Iterator.{YieldsFirst, item_count};
 ghost use Rattle.rules.specs.Runs.{runs_from};
 ghost use Rattle.rules.specs.Calls.{slice_after};
 ghost use Rattle.sets.specs.Sets.{holds_set};
-ghost use Rattle.schedule.specs.Search.{NextRun, meets_in};
+ghost use Rattle.rules.specs.declared.Interval.{Interval as Run};
+ghost use Rattle.schedule.specs.Search.{Next, NextRun, Takes, meets_in};
 
 use crate::table::Table;
 use rules::Interval;
@@ -89,12 +91,41 @@ fn met_in_a_row(sets: &[u16], set: u16) -> usize
     sets.iter().take_while(|met| contains(**met, set)).count()
 }
 
+// The first start, from the start `from` on, that meets the set if `met`, or that does not meet it otherwise; the count of
+// starts where there is none.
+pub fn next_start(table: &Table, from: u32, set: u16, met: bool) -> u32
+    requires { from ≤ length table.now.sets.now }
+    ensures { Next (meets_in table.now.sets.now set) met from (length table.now.sets.now) result }
+{
+    from + others_in_a_row(&table.sets[from as usize..], set, met) as u32
+}
+
+// How many sets in a row, from the first one on, don't have all of `set` if `met`, or have it otherwise.
+fn others_in_a_row(sets: &[u16], set: u16, met: bool) -> usize
+    ensures { result ≡ prefix_len (λ e. not (beq (holds_set e set) met)) sets.now }
+{
+    sets.iter()
+        .take_while(|e| contains(**e, set) != met)
+        .count()
+}
+
 // How many runs of starts meet the set.
 pub fn count_runs(table: &Table, set: u16) -> usize
     ensures count { result ≡ length (runs_from (meets_in table.now.sets.now set) 0 (length table.now.sets.now)) }
     ensures few { result ≤ length table.now.sets.now }
 {
     Runs::new(table, set).count()
+}
+
+// Writes a number of each run of starts that meet the set: its first start or its last, as `column` takes it.
+pub fn write_column<C: Fn(Interval) -> u32>(table: &Table, set: u16, column: C, out: &mut [u32])
+    requires callable { C.IsAlwaysCallable column }
+    requires room { length (runs_from (meets_in table.now.sets.now set) 0 (length table.now.sets.now)) ≤ length out.old }
+    ensures { (taken : Run → ℕ) → Takes (C.post column) taken → out.new ≡ slice_after (map taken (runs_from (meets_in table.now.sets.now set) 0 (length table.now.sets.now))) out.old }
+{
+    for (i, run) in Runs::new(table, set).enumerate() {
+        out[i] = column(run);
+    }
 }
 
 // Writes the runs of starts that meet the set: the first start of each into one slice, the last into the other. Two
