@@ -1,6 +1,6 @@
 -- The load of each tick, filled in row by row.
 -- Assumes nothing.
-use Prim.Native.Nat.{ℕ, ◌+◌}
+use Prim.Native.Nat.{ℕ, zero, suc, ◌+◌, ◌<◌, ◌≤◌}
 use mathlib.Core.Path.{◌≡◌, refl, sym, ◌∙◌, ap}
 use mathlib.Core.Bool.{cond, ◌&&◌}
 use mathlib.Core.List.{List}
@@ -9,11 +9,26 @@ use native.Mathlib.Numerals.{add-one}
 use lib.Dec.{leb, ltb}
 use lib.ListN.{length, get_or}
 use Rattle.placed.specs.declared.row.Row.{Row}
-use Rattle.placed.specs.Tables.{start_at, end_at}
+use Rattle.placed.specs.Tables.{row_in, start_at, end_at, engines_at, peak_at}
+use Rattle.placed.specs.Bounds.{AmountsBounded}
 use Rattle.placed.specs.Raised.{Raised}
 use Rattle.rules.proofs.Lists.{each_same}
 use Rattle.load.specs.Loads.{load_in, Loaded}
 use Rattle.load.specs.Clear.{fits, clear_for}
+
+-- the engines of a row are those that it weighs for E
+pub engine_amounts : (rows : List Row) (i : ℕ) (row : Row) → row ≡ row_in rows i → row.engines ≡ engines_at rows i
+engine_amounts rows i row e = ap (λ (x : Row). x.engines) e
+
+-- the engines and the peak of each row are at most a million
+pub amounts_bounded : (rows : List Row) (n : ℕ) → AmountsBounded rows (n + 1) → (i : ℕ) → i < n → (engines_at rows i ≤ 1000000) × (peak_at rows i ≤ 1000000)
+amounts_bounded rows n b i k = (b.engines i (omega arith), b.peak i (omega arith))
+
+-- weights that agree on the rows make the same load
+pub load_same : (rows : List Row) (v w : ℕ → ℕ) (n t : ℕ) → ((i : ℕ) → i < n → v i ≡ w i) → load_in rows v n t ≡ load_in rows w n t
+unfolding load_in
+load_same rows v w zero t f = refl
+load_same rows v w (suc n) t f = rw (f n (omega arith), load_same rows v w n t (λ i k. f i (omega arith)))
 
 module _ (rows : List Row) (weights : ℕ → ℕ) where
   -- no row, and one row more

@@ -13,12 +13,13 @@ use borrow.Author.Tests.{eq-eqb, ne_eqb}
 use Rattle.std.specs.List.{list_any}
 use Rattle.std.proofs.lemmas.List.{get_or-map, length-map}
 use Rattle.items.specs.declared.Item.{Item}
+use Rattle.rules.specs.Plan.{Setting}
 use Rattle.rules.specs.WellFormed.{SettingsFormed}
 use Rattle.rules.specs.MeetsS.{given}
 use Rattle.rules.proofs.ListAt.{at_mem}
 use Rattle.rules.specs.Tests.{any_of}
 use Rattle.activity.specs.View.{setting_of, number_of}
-use Rattle.placed.specs.Held.{UnitsSay}
+use Rattle.placed.specs.Held.{setting_at, UnitsSay}
 
 abbrev pub no_item : Item
 no_item = record { first = 0; second = 0; third = 0 }
@@ -38,9 +39,15 @@ pub given_later : (xs : List Item) (v i : ℕ) → i < length xs → ((get_or xs
 unfolding given
 given_later xs v i l f = rw (drop-cons xs i no_item l) (rw (ne_eqb _ _ f) refl)
 
-pub given_none : (xs : List Item) (v i : ℕ) → length xs ≤ i → given (map setting_of (drop i xs)) v ≡ none
+pub given_beyond : (xs : List Item) (v i : ℕ) → length xs ≤ i → given (map setting_of (drop i xs)) v ≡ none
 unfolding given
-given_none xs v i l = rw (drop_of_length-le xs l) refl
+given_beyond xs v i l = rw (drop_of_length-le xs l) refl
+
+-- of settings none of which is of the variable
+pub given_none : (xs : List Setting) (v : ℕ) → ((i : ℕ) → i < length xs → (setting_at xs i).variable ≡ v → ⊥) → given xs v ≡ none
+unfolding given
+given_none [] v f = refl
+given_none (x ∷ xs) v f = rw (ne_eqb _ _ (f 0 (omega arith))) (given_none xs v (λ i h. f (suc i) (omega arith)))
 
 -- ---- a unit among an activity's
 pub any_number : (p : ℕ → Bool) (xs : List Item) → any_of p (map number_of xs) ≡ list_any (λ x. p x.first) xs

@@ -40,6 +40,10 @@ use Rattle.schedule.proofs.Tabled.{table_runs, first_runs}
 use Rattle.placing.specs.declared.next.Placing.{Placing}
 use Rattle.placing.specs.Places.{PlacedTo, TableAt}
 
+-- a right answer's start, or its letters, are a small number
+pub right_small : (h : Header) (ps : Schedule) (a : Activity) (o : Outcome) → h.horizon ≤ 4096 → Right h ps a o → ((s : ℕ) → o ≡ Placed s → s < 32768) × ((m : ℕ) → o ≡ Refused m → m < 32768)
+right_small h ps a o l R = ((λ s e. omega (arith, (R.placed s e).valid.start)), (λ m e. omega (arith, (R.refused m e).small)))
+
 -- ---- nothing placed, and one more rightly answered
 reached_none : (h : Header) → HeaderFormed h → pos h.handover ≤ℤ charge h [] h.horizon → Reached h []
 reached_none h F R = record { header = F; kept = none_kept h F R; formed = λ e m. absurd (Memᴰ.not-nil m); in_time = λ e m. absurd (Memᴰ.not-nil m) }

@@ -1,6 +1,8 @@
 -- Where a need of the candidate is judged, by what is judged of each entry.
 -- Assumes nothing.
 use Prim.Native.Nat.{ℕ, suc, ◌<◌}
+use native.Mathlib.Decide.{dec_lt}
+use native.Mathlib.Omega.{arith}
 use mathlib.Core.Path.{◌≡◌, refl, sym, ap, ◌∙◌}
 use mathlib.Core.Bool.{◌&&◌, not}
 use mathlib.Core.List.{List}
@@ -22,6 +24,14 @@ pub judged_none : (rows : List Row) (n j : ℕ) → need_code_at rows n j ≡ 0 
 unfolding judged
 judged_none rows n j e = rw e refl
 
+-- a need that is judged at a tick is there
+pub judged_there : (rows : List Row) (n j k : ℕ) → k < judged rows n j → 0 < need_code_at rows n j
+judged_there rows n j k l = go (dec_lt 0 (need_code_at rows n j))
+  where
+    go : Dec (0 < need_code_at rows n j) → 0 < need_code_at rows n j
+    go (yes h) = h
+    go (no h) = absurd (omega (arith, l, judged_none rows n j (omega arith)))
+
 -- ---- a need of the candidate's row
 module _ (rows : List Row) (n j : ℕ) (own : Row) (d : Need) (e : own ≡ row_in rows n) (inside : j < length own.needs) where
   abbrev need : Need
@@ -37,9 +47,9 @@ module _ (rows : List Row) (n j : ℕ) (own : Row) (d : Need) (e : own ≡ row_i
   judged_absent z = judged_none rows n j (sym code_is ∙ z)
 
   -- one that is there is judged at the start and at each end
-  pub judged_there : (need.code ≡ 0 → ⊥) → judged rows n j ≡ suc n
+  pub judged_present : (need.code ≡ 0 → ⊥) → judged rows n j ≡ suc n
   unfolding judged
-  judged_there f = rw (ne_eqb (need_code_at rows n j) 0 (λ z. f (code_is ∙ z))) refl
+  judged_present f = rw (ne_eqb (need_code_at rows n j) 0 (λ z. f (code_is ∙ z))) refl
 
   -- what the code tests at an end, and at the start
   pub unmet_end : (k start end : ℕ) (entries : List Judged) → JudgedRight rows n entries → (need.code ≡ 0 → ⊥) → j < 4 → k < n → (leb start (end_in entries k) && ltb (end_in entries k) end && not (eqb (get_or (judged_in entries k).codes j 0) need.code)) ≡ unmet_at rows n j start end k

@@ -1,7 +1,7 @@
 -- `code_of` meets its contract: the settings before this one don't give the variable.
 use Rattle.std.proofs.Common.{◌∙◌, sym, ap, arith, add-one}
 use Rattle.placed.specs.Held.{code_of}
-use Rattle.placed.proofs.Given.{item_most, given_here, given_later, given_none}
+use Rattle.placed.proofs.Given.{item_most, given_here, given_later, given_beyond}
 use Rattle.placed.proofs.row.code_of.Goals as goal
 
 pub overflow_cast-result : goal.overflow_cast-result
@@ -18,4 +18,4 @@ pub loop-setting-preserved : goal.loop-setting-preserved
 loop-setting-preserved c = rw add-one (c.loop-setting.invariant ∙ given_later _ _ _ c.loop-setting-test.true c.if-setting-variable.false)
 
 pub returns : goal.returns
-returns c = sym (ap code_of (c.loop-setting.invariant ∙ given_none _ _ _ c.loop-setting-test.false))
+returns c = sym (ap code_of (c.loop-setting.invariant ∙ given_beyond _ _ _ c.loop-setting-test.false))

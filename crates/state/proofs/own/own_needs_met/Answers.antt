@@ -4,7 +4,7 @@ use borrow.Author.Count.{below_more}
 use Rattle.rules.proofs.Tests.{last_or}
 use Rattle.state.specs.Own.{unmet_at, judged, own_met}
 use Rattle.state.proofs.Loops.{none_holds, one_holds}
-use Rattle.state.proofs.Needs.{judged_absent, judged_there, unmet_end, unmet_start}
+use Rattle.state.proofs.Needs.{judged_absent, judged_present, unmet_end, unmet_start}
 use Rattle.state.proofs.own.own_needs_met.Goals as goal
 
 pub needs-preserved-then-need-eq0 : goal.needs-preserved-then-need-eq0
@@ -28,7 +28,7 @@ pub needs-preserved : goal.needs-preserved
 needs-preserved c =
     let right = c.requires.1 in
     let n = c.args.placed.now.count in
-    let there = judged_there c.args.placed.now.rows c.args.placed.now.count c.needs.j _ c.need-item.result c.candidate.ensures (omega arith) c.if-need-eq0.false in
+    let there = judged_present c.args.placed.now.rows c.args.placed.now.count c.needs.j _ c.need-item.result c.candidate.ensures (omega arith) c.if-need-eq0.false in
     let unmet = unmet_start c.args.placed.now.rows n c.needs.j _ c.need-item.result c.candidate.ensures (omega arith) c.args.start c.args.end in
     record {
       met = c.ticks.invariant.met;
@@ -50,7 +50,7 @@ returns-then-is_unmet c =
     let right = c.requires.1 in
     let rows = c.args.placed.now.rows in
     let n = c.args.placed.now.count in
-    let there = judged_there c.args.placed.now.rows c.args.placed.now.count c.needs.j _ c.need-item.result c.candidate.ensures (omega arith) c.if-need-eq0.false in
+    let there = judged_present c.args.placed.now.rows c.args.placed.now.count c.needs.j _ c.need-item.result c.candidate.ensures (omega arith) c.if-need-eq0.false in
     let unmet = unmet_end rows n c.needs.j _ c.need-item.result c.candidate.ensures (omega arith) c.ticks.entry-index c.args.start c.args.end _ right c.if-need-eq0.false (omega arith) (omega (arith, right.size)) in
     sym (one_holds (λ j k. unmet_at rows n j c.args.start c.args.end k) (judged rows n) 4 c.needs.j c.ticks.entry-index (omega arith) (omega (arith, there, right.size)) (sym unmet ∙ sym c.is_unmet.ensures ∙ c.if-is_unmet.true))
 
@@ -59,6 +59,6 @@ unfolding own_met
 returns-then-unmet_at_start c =
     let rows = c.args.placed.now.rows in
     let n = c.args.placed.now.count in
-    let there = judged_there c.args.placed.now.rows c.args.placed.now.count c.needs.j _ c.need-item.result c.candidate.ensures (omega arith) c.if-need-eq0.false in
+    let there = judged_present c.args.placed.now.rows c.args.placed.now.count c.needs.j _ c.need-item.result c.candidate.ensures (omega arith) c.if-need-eq0.false in
     let unmet = unmet_start rows n c.needs.j _ c.need-item.result c.candidate.ensures (omega arith) c.args.start c.args.end in
     sym (one_holds (λ j k. unmet_at rows n j c.args.start c.args.end k) (judged rows n) 4 c.needs.j n (omega arith) (omega (arith, there)) (sym unmet ∙ sym c.unmet_at_start.ensures ∙ c.if-unmet_at_start.true))
