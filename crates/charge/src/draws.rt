@@ -3,7 +3,7 @@ ghost use Rattle.std.specs.Prelude.{◌≡◌, ℕ, ◌+◌, ◌<◌, ◌≤◌,
 ghost use Rattle.placed.specs.Bounds.{AmountsBounded};
 ghost use Rattle.charge.specs.Charge.{own_view, row_draw, draw_of, drawn_in};
 
-use crate::own::OwnDraw;
+pub use crate::own::OwnDraw;
 use activity::Header;
 use placed::{Placed, Row, raise_ticks};
 

@@ -10,6 +10,7 @@ ghost use Rattle.placing.specs.Places.{PlacedTo};
 ghost use Rattle.report.specs.Lines.{line_most, end_most, report_most};
 ghost use Rattle.report.specs.Finished.{RowsSay, Finished};
 
+pub use crate::lines::REPORT;
 use crate::lines::{Report, put_end, put_no, put_outcome};
 use activity::Header;
 use placed::Placed;
