@@ -13,11 +13,15 @@ use rules::{ALL_CONDITIONS, Fault, Outcome, Refusal, TICKS};
 use schedule::runs::{count_runs, write_runs};
 use schedule::table::Table;
 
-// The outcome of the activity at a place: placed with its start, or refused with its letters.
+// The outcome of the activity at a place: placed with its start, or refused with its letters. By `match`, here and below: of
+// a plan, which can be copied and holds a reference, the kit's borrow checker does not cover `?`.
 pub fn outcome(bytes: &[u8], place: usize) -> Result<Outcome, Refusal>
     ensures { OutcomeCalled bytes.now place result }
 {
-    let plan = plan::read(bytes)?;
+    let plan = match plan::read(bytes) {
+        Ok(plan) => plan,
+        Err(refused) => return Err(refused),
+    };
     if place < plan.count() {
         Ok(placing::outcome_at(&plan, place))
     } else {
@@ -41,7 +45,10 @@ fn hand_over(text: &[u8], out: &mut [u8]) -> Result<usize, Refusal>
 pub fn report(bytes: &[u8], out: &mut [u8]) -> Result<usize, Refusal>
     ensures { ReportCalled bytes.now out.old result out.new }
 {
-    let plan = plan::read(bytes)?;
+    let plan = match plan::read(bytes) {
+        Ok(plan) => plan,
+        Err(refused) => return Err(refused),
+    };
     hand_over(report_of(&plan).as_slice(), out)
 }
 
@@ -82,7 +89,10 @@ pub fn starts(
 ) -> Result<usize, Refusal>
     ensures { StartsCalled bytes.now place set firsts.old lasts.old result firsts.new lasts.new }
 {
-    let plan = plan::read(bytes)?;
+    let plan = match plan::read(bytes) {
+        Ok(plan) => plan,
+        Err(refused) => return Err(refused),
+    };
     if plan.count() <= place {
         return Err(Fault::NoPlace.into());
     }

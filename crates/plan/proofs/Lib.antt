@@ -8,5 +8,4 @@ pub mod Mapped
 pub mod Judging
 pub mod Accepted
 pub mod Places
-pub mod Same
 pub mod Column

@@ -1,11 +1,9 @@
--- That a plan is placeable is a proposition, so that it can stand in a struct; and so is that lines are those of its bytes.
+-- That a plan is placeable is a proposition, so that it can stand in a struct.
 use Rattle.std.specs.Prelude.{ℕ, suc}
 use mathlib.Core.HLevel.{Unit-prop}
 use mathlib.Core.List.{List, [], ◌∷◌}
 use Rattle.rules.specs.WellFormed.{Rises}
-use Rattle.rules.specs.Plan.{Header, Plan}
-use Rattle.order.specs.declared.Line.{Line}
-use Rattle.plan.specs.Said.{LinesIn}
+use Rattle.rules.specs.Plan.{Plan}
 use Rattle.plan.specs.Placeable.{Placeable}
 use Rattle.std.proofs.Props.{props}
 
@@ -15,6 +13,3 @@ rises_prop low high least (x ∷ xs) = hlevel (rises_prop low high (suc (high x)
 
 pub placeable_prop : (p : Plan) → IsProp (Placeable p)
 placeable_prop p = hlevel (props, rises_prop)
-
-pub lines_prop : (h : Header) (s : List ℕ) (lines : List Line) → IsProp (LinesIn h s lines)
-lines_prop h s lines = hlevel props

@@ -14,31 +14,13 @@ mod reading;
 use activity::Header;
 use order::Lines;
 pub use reading::read;
-use std::alloc::AllocError;
 
-// A plan that can be placed: the bytes of its file, its header, and for each place the line of its activity. It is not `Copy`:
-// of a struct that holds a reference and a list and is `Copy`, the kit's borrow checker does not cover `read(bytes)?`.
-#[derive(Drop)]
+// A plan that can be placed: the bytes of its file, its header, and for each place the line of its activity.
+#[derive(Clone, Copy)]
 pub struct Plan<'a> {
     pub bytes: &'a [u8],
     pub header: Header,
     pub lines: Lines,
     pub ghost said: { LinesIn (header_view header) bytes.now lines },
     pub ghost is_placeable: { Placeable (plan_of (header_view header) bytes.now lines) } by { placeable_prop _ },
-}
-
-impl<'a> Clone for Plan<'a> {
-    ghost use Rattle.std.specs.Prelude.{◌≡◌, ⊤};
-
-    ghost is_clone = { λ x y. y ≡ x };
-
-    ghost is_infallible = { λ _. ⊤ };
-
-    fn clone(&self) -> Result<Self, AllocError> {
-        Ok(Plan {
-            bytes: self.bytes,
-            header: self.header,
-            lines: self.lines,
-        })
-    }
 }
