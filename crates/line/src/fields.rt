@@ -1,5 +1,5 @@
 // The fields of a line, left to right.
-ghost use Rattle.std.specs.Prelude.{◌≡◌, ◌≤◌, drop};
+ghost use Rattle.std.specs.Prelude.{◌≡◌, ◌≤◌, drop, IfOk, length};
 ghost use Rattle.rules.specs.Fields.{number_field, list_field};
 ghost use Rattle.rules.specs.Lines.{split_on, field};
 ghost use Rattle.rules.specs.Refusals.{read_as};
@@ -78,6 +78,7 @@ impl<'a> Fields<'a> {
     pub fn list<const N: usize>(&mut self, form: Form) -> Result<Items<N>, Fault>
         requires { (form.most ≤ N) × (N ≤ 32) }
         ensures value { read_as (λ xs. xs) result ≡ list_field (kind_of form) (field self.old 0) }
+        ensures within { IfOk result (λ items. length items ≤ form.most) }
         ensures rest { self.new ≡ drop 1 self.old }
     {
         read_list(self.next(), form)

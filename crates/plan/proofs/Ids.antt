@@ -1,11 +1,11 @@
 -- The rules' tests of the ids of activities are those of the ids of their lines.
 -- Assumes nothing.
-use Rattle.std.proofs.Common.{arith, ◌≡◌, ◌+◌, ℕ, suc, Bool, true, false, cond, ◌||◌, List, [], ◌∷◌, map, eqb, add-one, Option, Some, refl, sym, ap, ◌∙◌}
+use Rattle.std.proofs.Common.{arith, ◌≡◌, ◌+◌, ◌<◌, ℕ, length, slice_index_or, suc, Bool, true, false, cond, ◌||◌, List, [], ◌∷◌, map, eqb, add-one, Option, Some, refl, sym, ap, ◌∙◌}
 use Rattle.std.specs.List.{Contains, list_any, position, position_from}
 use Rattle.std.specs.List.Sorted.{IsPermutation}
 use Rattle.std.specs.Option.{IsSome, option_map, unwrap_or}
 use Rattle.std.proofs.lemmas.Iterator.Adapters.{position_from-zero}
-use Rattle.std.proofs.lemmas.List.Elements.{All-head, All-tail}
+use Rattle.std.proofs.lemmas.List.Elements.{All-head, All-tail, All-get_or}
 use Rattle.std.proofs.lemmas.Bool.{eq-eqb}
 use Rattle.std.proofs.lemmas.List.Folds.{list_any_at}
 use Rattle.std.proofs.lemmas.List.Sorted.{list_any-IsPermutation}
@@ -29,6 +29,10 @@ found_from p m n (x ∷ xs) = go (p x) (let e : n + m + 1 ≡ (n + 1) + m = omeg
     go false ih = ih
 
 module _ (h : Header) (s : List ℕ) where
+  -- the id of a line is that of the activity that it says
+  pub id_is_at : (lines : List Line) → LinesIn h s lines → (i : ℕ) → i < length lines → (d : Line) → (slice_index_or lines i d).id ≡ (said_by h s (slice_index_or lines i d)).id
+  id_is_at lines g i k d = (All-get_or (LineIn h s) lines i d k g).id_is
+
   pub has_ids : (xs : List Line) → LinesIn h s xs → (id : ℕ) → has_id id (map (said_by h s) xs) ≡ list_any (says_id id) xs
   unfolding has_id any_of
   has_ids [] g id = refl

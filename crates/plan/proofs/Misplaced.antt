@@ -6,14 +6,13 @@ use Rattle.std.proofs.Math.Bool.{or_comm}
 use Rattle.std.proofs.Math.Seq.{drop-cons}
 use Rattle.std.proofs.Common.{add-one, drop_of_length-le}
 use Rattle.std.specs.List.{list_any, list_all}
-use Rattle.std.proofs.lemmas.List.Elements.{All-get_or}
 use Rattle.std.proofs.lemmas.List.Folds.{list_any_more}
 use Rattle.rules.specs.Plan.{Header, Activity}
 use Rattle.rules.specs.Tests.{any_of, every}
 use Rattle.rules.specs.Reading.{has_id, misplaced}
 use Rattle.rules.proofs.Library.{every_is, every_same}
-use Rattle.plan.specs.Said.{said_by, LineIn, LinesIn}
-use Rattle.plan.proofs.Ids.{says_id}
+use Rattle.plan.specs.Said.{said_by, LinesIn}
+use Rattle.plan.proofs.Ids.{says_id, id_is_at}
 use Rattle.order.specs.declared.Line.{Line}
 
 -- the lines of s, where the first i are tried: the activities at their places, the latest first, and what is left
@@ -47,6 +46,6 @@ module _ (h : Header) (s : List ℕ) (lines : List Line) where
     tried_more e =
         record {
           earlier = said_by h s (slice_index_or lines i d) ∷ t.earlier;
-          known = λ id. rw (list_any_more (says_id id) lines i d k, ← (All-get_or (LineIn h s) lines i d k g).id_is, ← t.known id) (or_comm (eqb (slice_index_or lines i d).id id) (has_id id t.earlier));
+          known = λ id. rw (list_any_more (says_id id) lines i d k, ← id_is_at h s lines g i k d, ← t.known id) (or_comm (eqb (slice_index_or lines i d).id id) (has_id id t.earlier));
           left = t.left ∙ rw (drop-cons lines i d k, after, e, add-one);
         }

@@ -35,8 +35,8 @@ rows_same spoil ends n r l f e h =
     (λ p g i. each_all _ _ (λ j q. rw (lt-leb (spoil p j) e (omega (arith, f p g i j q))) refl))
 
 -- where no entry from number r on can be spoilt
-pub rows_past : (entries : List Judged) (r : ℕ) → r ≤ length entries → ((p : ℕ) → r ≤ p → p < length entries → can_be_spoilt (judged_in entries p) ≡ false) → (e : ℕ) → e < never → placed_met (spoil_in entries) (end_in entries) (length entries) e ≡ placed_met (spoil_in entries) (end_in entries) r e
-rows_past entries r l past = rows_same (spoil_in entries) (end_in entries) (length entries) r l
+pub rows_past : (entries : List Judged) (ends : ℕ → ℕ) (r : ℕ) → r ≤ length entries → ((p : ℕ) → r ≤ p → p < length entries → can_be_spoilt (judged_in entries p) ≡ false) → (e : ℕ) → e < never → placed_met (spoil_in entries) ends (length entries) e ≡ placed_met (spoil_in entries) ends r e
+rows_past entries ends r l past = rows_same (spoil_in entries) ends (length entries) r l
     (λ p g i j q. go p j q (past p g i) (dec_le never (spoil_in entries p j)))
   where
     go : (p j : ℕ) → j < 4 → can_be_spoilt (judged_in entries p) ≡ false → Dec (never ≤ spoil_in entries p j) → never ≤ spoil_in entries p j

@@ -40,7 +40,7 @@ fn can_be_spoilt(entry: &Judged) -> bool
 // How many entries matter: one more than the last with a need that can be spoilt.
 pub fn rows_spoilt(entries: &[Judged]) -> usize
     ensures within { result ≤ length entries.now }
-    ensures same { (e : ℕ) → e < never → placed_met (spoil_in entries.now) (end_in entries.now) (length entries.now) e ≡ placed_met (spoil_in entries.now) (end_in entries.now) result e }
+    ensures same { (ends : ℕ → ℕ) (e : ℕ) → e < never → placed_met (spoil_in entries.now) ends (length entries.now) e ≡ placed_met (spoil_in entries.now) ends result e }
 {
     entries
         .iter()
