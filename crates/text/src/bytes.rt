@@ -3,14 +3,14 @@ ghost use Rattle.std.specs.Prelude.{◌≡◌, ◌+◌, ◌≤◌, [], ◌++◌,
 ghost use Rattle.rules.specs.Number.{decimal};
 
 use crate::number::put_number;
-use items::List;
+use items::Padded;
 use std::marker::Model;
 
-// At most N bytes. Clauses see the list of those written. A struct around a `List`, since only a type's own crate gives it
+// At most N bytes. Clauses see the list of those written. A struct around a `Padded`, since only a type's own crate gives it
 // methods.
 #[derive(Clone, Copy)]
 pub struct Bytes<const N: usize> {
-    written: List<u8, N>,
+    written: Padded<u8, N>,
 }
 
 impl<const N: usize> Model for Bytes<N> {
@@ -29,7 +29,7 @@ impl<const N: usize> Bytes<N> {
         ensures { result ≡ [] }
     {
         Bytes {
-            written: List::new(),
+            written: Padded::new(),
         }
     }
 
