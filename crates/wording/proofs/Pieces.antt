@@ -70,6 +70,25 @@ pub pieces : (p : Written) (ws : List (List ℕ)) → written p ws ≡ with_more
 pieces p [] = sym (more_none p)
 pieces p (w ∷ ws) = pieces (with_more p w) ws ∙ more_then p w (together ws)
 
+-- a piece leaves the room as it is: the bytes kept and those left behind them
+pub room_kept : (p : Written) (w : List ℕ) → length (with_more p w).bytes + length (with_more p w).left ≡ length p.bytes + length p.left
+unfolding with_more
+room_kept p w =
+    let n = length p.left in
+    omega (arith, length-append p.bytes (take n (drop p.skip w)), length-take n (drop p.skip w), length-drop p.skip w, length-drop (length w - p.skip) p.left)
+
+-- as much of it is kept as this room still holds
+pub kept_in_room : (p : Written) (room : ℕ) (w : List ℕ) → room ≡ length p.bytes + length p.left → (with_more p w).bytes ≡ p.bytes ++ take (room - length p.bytes) (drop p.skip w)
+unfolding with_more
+kept_in_room p room w e =
+    let n : room - length p.bytes ≡ length p.left = omega (arith, e) in
+    rw n refl
+
+-- the part of a text fits its room
+pub part_fits : (from room : ℕ) (text : List ℕ) → length (part from room text) ≤ room
+unfolding part
+part_fits from room text = omega (arith, length-take room (drop from text))
+
 -- a whole text leaves its part at the front of the lent slice
 pub more_part : (n from : ℕ) (lent text : List ℕ) → (with_more (record { lent = n; skip = from; bytes = []; left = lent }) text).bytes ≡ part from (length lent) text
 unfolding with_more part
