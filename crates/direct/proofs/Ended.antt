@@ -5,7 +5,7 @@ use mathlib.Core.Path.{◌≡◌, refl, sym, ◌∙◌, ap}
 use mathlib.Core.Bool.{Bool, true, false, cond, ◌&&◌, ◌||◌}
 use mathlib.Core.List.{List, [], ◌∷◌, ◌++◌, map}
 use Rattle.std.proofs.Common.{Option, None, Some, filter, append-nil, get_or-take}
-use Rattle.std.proofs.lemmas.List.{take_more, get_or-map, map-append}
+use Rattle.std.proofs.lemmas.List.{take_more, take_all, get_or-map, map-append}
 use Rattle.std.proofs.lemmas.List.Sums.{fold-append}
 use Rattle.std.specs.List.{reduce}
 use Rattle.std.proofs.lemmas.List.Elements.{filter-append}
@@ -118,8 +118,13 @@ first_is rows id (suc n) l = rw (← add-one n, take_more rows n no_row l, ends_
 abbrev pub no_item : Item
 no_item = record { first = 0; second = 0; third = 0 }
 
+-- what it has of one id, by the first rows
 pub ready_by : (rows entries : List Row) (n : ℕ) (after : List Item) (i : ℕ) (end : Option ℕ) → entries ≡ take n rows → n ≤ length rows → i < length after → end ≡ reduce min (ends (get_or after i no_item).first entries) → IsReady (first_end rows (get_or (map number_of after) i 0) n) end
 ready_by rows entries n after i end e l k f = rw (f, e, get_or-map number_of after i no_item 0 k) (first_is rows (get_or after i no_item).first n l)
+
+-- of rows that are all there are
+pub ready_all : (entries : List Row) (after : List Item) (i : ℕ) (end : Option ℕ) → i < length after → end ≡ reduce min (ends (get_or after i no_item).first entries) → IsReady (first_end entries (get_or (map number_of after) i 0) (length entries)) end
+ready_all entries after i end k f = ready_by entries entries (length entries) after i end (sym (take_all (length entries) entries (omega arith))) (omega arith) k f
 
 -- ---- the first rows as a list of their own
 first_taken : (rows entries : List Row) (n : ℕ) → entries ≡ take n rows → (id k : ℕ) → k ≤ n → first_end entries id k ≡ first_end rows id k
